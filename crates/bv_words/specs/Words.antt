@@ -1,0 +1,64 @@
+-- Words of 1 to 64 bits, as whole numbers below 2 ^ width. Each function of the crate is its line here.
+use Rattle.std.specs.Prelude.{ℕ, ◌+◌, ◌-◌, ◌*◌, ◌/◌, ◌%◌, ◌^◌, ℤ, pos, ◌-ℤ◌, neg_ℤ, Bool, true, false, cond, nat_lt, int_lt, unsigned_abs, bit_xor}
+use Rattle.std.specs.Int.{int_rem_euclid}
+
+-- the lowest bits of a number: x mod 2 ^ width
+unfoldable pub chop : ℕ → ℕ → ℕ
+chop width x = x % 2 ^ width
+
+-- the same of an integer, negative ones too: z mod 2 ^ width, which is never below 0
+unfoldable pub chop_wide : ℕ → ℤ → ℕ
+chop_wide width z = unsigned_abs (int_rem_euclid z (pos (2 ^ width)))
+
+-- a word in two's complement: x where its top bit is 0, and x - 2 ^ width otherwise
+unfoldable pub signed : ℕ → ℕ → ℤ
+signed width x = cond (nat_lt x (2 ^ (width - 1))) (pos x) (pos x -ℤ pos (2 ^ width))
+
+-- bits low to high of a number, both included
+unfoldable pub slice : ℕ → ℕ → ℕ → ℕ
+slice high low x = chop (high - low + 1) (x / 2 ^ low)
+
+-- h above l, which has low_width bits
+unfoldable pub cat : ℕ → ℕ → ℕ → ℕ → ℕ
+cat high_width h low_width l = h * 2 ^ low_width + l
+
+-- sign extension: the word of the new width with the signed value of the old one
+unfoldable pub sx : ℕ → ℕ → ℕ → ℕ
+sx new_width old_width x = chop_wide new_width (signed old_width x)
+
+-- the word of minus x
+unfoldable pub neg : ℕ → ℕ → ℕ
+neg width x = chop_wide width (neg_ℤ (pos x))
+
+-- each bit turned
+unfoldable pub bit_not : ℕ → ℕ → ℕ
+bit_not width x = bit_xor x (2 ^ width - 1)
+
+-- the sum modulo 2 ^ width
+unfoldable pub plus : ℕ → ℕ → ℕ → ℕ
+plus width x y = chop width (x + y)
+
+-- the product modulo 2 ^ width
+unfoldable pub times : ℕ → ℕ → ℕ → ℕ
+times width x y = chop width (x * y)
+
+-- less, as signed numbers
+unfoldable pub slt : ℕ → ℕ → ℕ → Bool
+slt width x y = int_lt (signed width x) (signed width y)
+
+-- up by an amount, which is not masked: 0 from the width on
+unfoldable pub shl : ℕ → ℕ → ℕ → ℕ
+shl width x amount = cond (nat_lt amount width) (chop width (x * 2 ^ amount)) 0
+
+-- down by an amount, with zeros coming in: 0 from the width on
+unfoldable pub shr : ℕ → ℕ → ℕ → ℕ
+shr width x amount = cond (nat_lt amount width) (x / 2 ^ amount) 0
+
+-- up by an amount modulo the width; what leaves above comes in below
+unfoldable pub rotate_left : ℕ → ℕ → ℕ → ℕ
+rotate_left width amount x = chop width (x * 2 ^ (amount % width)) + x / 2 ^ (width - amount % width)
+
+-- a bit of a truth value: 1 where it is true
+abbrev pub one_if : Bool → ℕ
+one_if true = 1
+one_if false = 0

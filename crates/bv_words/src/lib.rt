@@ -1,0 +1,32 @@
+//! Arithmetic on words of 1 to 64 bits.
+//!
+//! A word of a width is a `u64` below `2 ^ width`. The functions here compute on such words by shifts
+//! and masks, and each is proved to be its line of `specs/Words.antt`, which says the same over whole
+//! numbers. The interpreter, the evaluator, the graph of word operations and its translation into
+//! clauses all cite these lines, so that a word operation means the same in each of them.
+//!
+//! - `cuts`: parts of words, `chop`, `chop_wide`, `slice`, `cat`, `sx` and `mask`
+//! - `arithmetic`: `neg`, `plus` and `times`
+//! - `logic`: `not`, `and`, `or` and `xor`
+//! - `order`: `ult` and `slt`
+//! - `shifts`: `shl`, `shr` and `rotate_left`
+//!
+//! No function here allocates, and none has a refusal: what it needs is its `requires`. For callers'
+//! proofs, `proofs/Bounds.antt` has a bound for each word, and `proofs/Laws.antt` the equations that
+//! rewriting words rests on.
+#![tactic(auto)]
+
+mod arithmetic;
+mod cuts;
+mod logic;
+mod order;
+mod shifts;
+
+pub use arithmetic::{neg, plus, times};
+pub use cuts::{cat, chop, chop_wide, mask, slice, sx};
+pub use logic::{and, not, or, xor};
+pub use order::{slt, ult};
+pub use shifts::{rotate_left, shl, shr};
+
+#[cfg(test)]
+mod tests;
