@@ -1,0 +1,4 @@
+pub mod Loops
+pub mod ConstantLaws
+pub mod MemberLaws
+pub mod ClassLaws
