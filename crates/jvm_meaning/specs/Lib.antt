@@ -1,0 +1,5 @@
+pub mod Values
+pub mod Instructions
+pub mod Machine
+pub mod Runs
+pub mod Descriptors
