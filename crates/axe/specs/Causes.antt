@@ -1,0 +1,35 @@
+-- Why a stage stops.
+use Rattle.std.specs.Prelude.{◌≡◌, ◌⊎◌, ℕ, List, Some, None, Err}
+use Rattle.axe_io.specs.Ends.{Told, IsLonger, Rose}
+use Rattle.verdict_text.specs.declared.verdict.Part.TheVariants as part
+use Rattle.verdict_text.specs.declared.verdict.Refusal.{Refusal}
+use Rattle.verdict_text.specs.declared.verdict.Refusal.TheVariants.{NotBuilt, ClassLong}
+use Rattle.axe.specs.declared.given.Named.{Named}
+use Rattle.axe.specs.declared.given.Named.TheVariants as named
+use Rattle.axe.specs.declared.parts.Stop.{Stop}
+use Rattle.axe.specs.declared.parts.Stop.TheVariants.{Refused, ReadFault, Memory}
+use Rattle.axe.specs.Parts.{Words}
+use Rattle.axe.specs.Answers.{IsFound, IsMissing}
+
+-- the refusal of a text that is too long
+abbrev pub refused_long : Named → Refusal
+refused_long named.Class = ClassLong
+refused_long named.Spec = NotBuilt part.Spec
+
+-- a read answered so
+abbrev pub HasGivenCause : Told → Named → ℕ → ℕ → Stop → Type 0
+HasGivenCause told which before now (Refused r) = (r ≡ refused_long which) × IsLonger told 1048576
+HasGivenCause told which before now ReadFault = Rose before now ⊎ (told ≡ Some None)
+HasGivenCause told which before now Memory = Unit {0}
+
+-- the parts of a job weren't found
+abbrev pub HasFindCause : Words → (List ℕ → Told) → ℕ → ℕ → Stop → Type 0
+HasFindCause w holds before now (Refused r) = IsFound w holds (Err r)
+HasFindCause w holds before now ReadFault = Rose before now ⊎ IsMissing w holds
+HasFindCause w holds before now Memory = Unit {0}
+
+-- no answer to a job was reached
+abbrev pub HasJobStopCause : Words → (List ℕ → Told) → ℕ → ℕ → Stop → Type 0
+HasJobStopCause w holds before now (Refused r) = ⊥
+HasJobStopCause w holds before now ReadFault = Rose before now ⊎ IsMissing w holds
+HasJobStopCause w holds before now Memory = Unit {0}

@@ -1,0 +1,5 @@
+pub mod Parts
+pub mod Stages
+pub mod Answers
+pub mod Causes
+pub mod Runs

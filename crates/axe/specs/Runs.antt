@@ -1,0 +1,66 @@
+-- How a run of the program ends.
+use Rattle.std.specs.Prelude.{◌≡◌, ◌⊎◌, ℕ, List, [], take, Option}
+use Rattle.axe_io.specs.Ends.{Told, Rose, Appends}
+use Rattle.verdict_text.specs.Texts.{text_of}
+use Rattle.verdict_text.specs.declared.verdict.Verdict.{Verdict}
+use Rattle.verdict_text.specs.declared.verdict.Verdict.TheVariants as verdict
+use Rattle.axe.specs.declared.parts.Stop.{Stop}
+use Rattle.axe.specs.declared.parts.Stop.TheVariants as stop
+use Rattle.axe.specs.declared.answer.Answer as code
+use Rattle.axe.specs.declared.status.Status.{Status}
+use Rattle.axe.specs.declared.status.Status.TheVariants.{Equal, Different, Unknown, Refused, ReadFault, WriteFault, NoMemory}
+use Rattle.axe.specs.Answers.{Answer, IsRight, LacksContent}
+
+-- the status of a verdict
+abbrev pub status_of : Verdict → Status
+status_of (verdict.Equal bits) = Equal
+status_of (verdict.Different input method spec) = Different
+status_of (verdict.Unknown spent) = Unknown
+status_of (verdict.UnknownCases limit) = Unknown
+status_of (verdict.Refused refusal) = Refused
+
+-- a status as a number
+abbrev pub code_of : Status → ℕ
+code_of Equal = 0
+code_of Different = 1
+code_of Unknown = 2
+code_of Refused = 3
+code_of ReadFault = 4
+code_of WriteFault = 5
+code_of NoMemory = 6
+
+abbrev pub answer : code.Answer → Answer
+answer a = record { verdict = a.verdict; shape = a.shape; class = a.class }
+
+abbrev pub text : Answer → List ℕ
+text answer = text_of answer.shape answer.class answer.verdict
+
+-- why no answer was reached
+abbrev pub HasStopCause : List (List ℕ) → (List ℕ → Told) → ℕ → ℕ → Stop → Type 0
+HasStopCause words holds before now stop.ReadFault = Rose before now ⊎ LacksContent words holds
+HasStopCause words holds before now stop.Memory = Unit {0}
+HasStopCause words holds before now (stop.Refused refusal) = ⊥
+
+-- the status where no answer was reached; a refusal is an answer
+abbrev pub stop_status : Stop → Status
+stop_status stop.ReadFault = ReadFault
+stop_status stop.Memory = NoMemory
+stop_status (stop.Refused refusal) = NoMemory
+
+-- no answer was reached, and nothing was written
+abbrev pub NoAnswer : List (List ℕ) → (List ℕ → Told) → ℕ → ℕ → Option (List ℕ) → Option (List ℕ) → Status → Type 0
+NoAnswer words holds before now old new ReadFault = (Rose before now ⊎ LacksContent words holds) × Appends old new []
+NoAnswer words holds before now old new NoMemory = Appends old new []
+NoAnswer words holds before now old new _ = ⊥
+
+-- the text of an answer was written, or its beginning where the sink failed, or nothing where memory ran out
+abbrev pub Wrote : Answer → Option (List ℕ) → Option (List ℕ) → ℕ → ℕ → Status → Type 0
+Wrote answer old new before now WriteFault = Rose before now × ((n : ℕ) × Appends old new (take n (text answer)))
+Wrote answer old new before now NoMemory = Appends old new []
+Wrote answer old new before now ReadFault = ⊥
+Wrote answer old new before now status = (status ≡ status_of answer.verdict) × Appends old new (text answer)
+
+-- what a run gave: no answer, or what was written of the right one
+abbrev pub RunEnds : List (List ℕ) → (List ℕ → Told) → ℕ → ℕ → Option (List ℕ) → Option (List ℕ) → ℕ → ℕ → Status → Type 0
+RunEnds words holds read_before read_now old new before now status =
+    NoAnswer words holds read_before read_now old new status ⊎ ((answer : Answer) × IsRight words holds answer × Wrote answer old new before now status)

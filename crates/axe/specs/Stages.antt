@@ -1,0 +1,109 @@
+-- The stages that find a job's parts, in their order. Each gives a part, or the refusal of the job.
+use Rattle.std.specs.Prelude.{ℕ, ◌==◌, nat_lt, ◌&&◌, not, if◌then◌else◌, Bool, true, false, List, length, codes, count_by, position, slice_get, Option, Some, None, Result, Ok, Err}
+use Rattle.axe_io.specs.Shapes.{ShapeParts}
+use Rattle.axe_io.specs.declared.parameters.OutPlace.{OutPlace}
+use Rattle.axe_io.specs.declared.parameters.OutPlace.TheVariants.{Returned, Param}
+use Rattle.class_reader.specs.Contents.{Contents}
+use Rattle.class_reader.specs.Members.{answers_to}
+use Rattle.class_reader.specs.ClassReaders.{class_of}
+use Rattle.class_reader.specs.declared.class.MethodId.{MethodId}
+use Rattle.class_reader.specs.declared.error.ClassError.{ClassError}
+use Rattle.jvm_meaning.specs.Descriptors.{shape_end}
+use Rattle.spec_reader.specs.Programs.{program_of, function_named}
+use Rattle.spec_reader.specs.declared.program.Program.{Program}
+use Rattle.spec_reader.specs.declared.program.Function.{Function}
+use Rattle.spec_reader.specs.declared.program.FunId.{FunId}
+use Rattle.spec_reader.specs.declared.error.SpecError.{SpecError}
+use Rattle.verdict_text.specs.declared.verdict.Part.TheVariants as part
+use Rattle.verdict_text.specs.declared.verdict.Refusal.{Refusal}
+use Rattle.verdict_text.specs.declared.verdict.Refusal.TheVariants.{NotBuilt, ClassLong, Class, Method}
+use Rattle.axe.specs.Parts.{Words, Parts}
+
+infixl 10 ◌>>=◌
+abbrev pub ◌>>=◌ : {A B : Type 0} → Result A Refusal → (A → Result B Refusal) → Result B Refusal
+(Ok x) >>= f = f x
+(Err e) >>= f = Err e
+
+-- ---- the class and its method
+
+abbrev pub classed : Result Contents ClassError → Result Contents Refusal
+classed (Ok c) = Ok c
+classed (Err e) = Err (Class e)
+
+-- a class that was given, if it isn't too long
+abbrev pub class_given : Option (List ℕ) → Result Contents Refusal
+class_given None = Err ClassLong
+class_given (Some bytes) = classed (class_of bytes)
+
+abbrev pub with_id : Contents → Option ℕ → ℕ → Result (Contents × MethodId) Refusal
+with_id c (Some k) count = Ok (c, record { 0 = k })
+with_id c None count = Err (Method count)
+
+abbrev pub one_method : Contents → ℕ → Option ℕ → Result (Contents × MethodId) Refusal
+one_method c count first = if count == 1 then with_id c first count else Err (Method count)
+
+-- the one static method with Code of the name and, where one is given, of the descriptor
+abbrev pub method_in : Words → Contents → Result (Contents × MethodId) Refusal
+method_in w c = one_method c (count_by (answers_to w.method w.desc) c.methods) (position (answers_to w.method w.desc) c.methods)
+
+unfoldable pub method_stage : Words → Option (List ℕ) → Result (Contents × MethodId) Refusal
+method_stage w given = do
+  c ← class_given given
+  method_in w c
+
+-- ---- the specification and its function
+
+abbrev pub programmed : Result Program SpecError → Result Program Refusal
+programmed (Ok p) = Ok p
+programmed (Err e) = Err (NotBuilt part.Spec)
+
+abbrev pub program_given : Option (List ℕ) → Result Program Refusal
+program_given None = Err (NotBuilt part.Spec)
+program_given (Some bytes) = if nat_lt 4096 (length bytes) then Err (NotBuilt part.Spec) else programmed (program_of bytes)
+
+abbrev pub function_found : Option ℕ → Result FunId Refusal
+function_found (Some k) = Ok (record { 0 = k })
+function_found None = Err (NotBuilt part.Function)
+
+abbrev pub function_in : Words → Program → Result FunId Refusal
+function_in w p = function_found (function_named p.functions w.function)
+
+-- ---- the shape
+
+-- the class has a static initialiser with Code
+abbrev pub has_initialiser : Contents → Bool
+has_initialiser c = not (count_by (answers_to (codes "<clinit>") (Some (codes "()V"))) c.methods == 0)
+
+abbrev pub is_returned : OutPlace → Bool
+is_returned Returned = true
+is_returned (Param k) = false
+
+-- sizes and a place of the result that a method without arrays has
+abbrev pub is_plain : Words → Bool
+is_plain w = (length w.sizes == 0) && is_returned w.out
+
+abbrev pub shape_fits : Words → Contents → ℕ → ShapeParts → Bool
+shape_fits w c formals shape = (not (has_initialiser c) && is_plain w) && (formals == length shape.params)
+
+abbrev pub shape_found : Words → Contents → ℕ → Option ShapeParts → Result ShapeParts Refusal
+shape_found w c formals None = Err (NotBuilt part.Shape)
+shape_found w c formals (Some shape) = if shape_fits w c formals shape then Ok shape else Err (NotBuilt part.Shape)
+
+abbrev pub formals_of : Option Function → ℕ
+formals_of None = 0
+formals_of (Some f) = f.formals
+
+abbrev pub shape_in : Words → Contents → MethodId → ℕ → Result ShapeParts Refusal
+shape_in w c m formals = shape_found w c formals (shape_end c m)
+
+-- ---- all parts
+
+abbrev pub made : Contents × MethodId → Program → FunId → ShapeParts → Parts
+made cm p f s = record { class = cm.0; method = cm.1; program = p; function = f; shape = s }
+
+unfoldable pub parts_stage : Words → Contents × MethodId → Option (List ℕ) → Result Parts Refusal
+parts_stage w cm given = do
+  p ← program_given given
+  f ← function_in w p
+  s ← shape_in w cm.0 cm.1 (formals_of (slice_get p.functions f.0))
+  Ok (made cm p f s)

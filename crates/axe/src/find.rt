@@ -1,0 +1,25 @@
+ghost use Rattle.std.specs.Prelude.{◌≡◌, ◌<◌, ℕ, List, IfOk, MatchResult, Ok, Err, length};
+ghost use Rattle.axe.specs.Parts.{meant, parts};
+ghost use Rattle.axe.specs.Answers.{IsFound};
+ghost use Rattle.axe.specs.Causes.{HasFindCause};
+
+use crate::function::parts_of;
+use crate::given::{Named, given};
+use crate::method::method_of;
+use crate::parts::{Parts, Stop, Words};
+use axe_io::Store;
+use std::alloc::Global;
+
+/// Finds the parts of a job: the class is read and parsed, its method is found, the specification is read and
+/// parsed, its function is found, and the shape is made; the first stage that fails decides.
+pub fn find<S: Store>(alloc: Global, words: &Words<'_>, store: &mut S) -> Result<Parts, Stop>
+    ensures found { MatchResult result
+        (λ p. IsFound (meant words.now) (S.holds store.old) (Ok (parts p)))
+        (HasFindCause (meant words.now) (S.holds store.old) (S.faults store.old) (S.faults store.new)) }
+    ensures within { IfOk result (λ p. (p.method.0 < length p.class.methods) × (p.function.0 < length p.program.functions)) }
+{
+    let class = given(alloc, words.class, Named::Class, store)?;
+    let (class, method) = method_of(alloc, words, &class)?;
+    let spec = given(alloc, words.spec, Named::Spec, store)?;
+    parts_of(alloc, words, class, method, &spec)
+}

@@ -1,0 +1,54 @@
+ghost use Rattle.std.specs.Prelude.{◌≡◌, ℕ, map, string_bytes};
+ghost use Rattle.axe.specs.Runs.{RunEnds, Wrote, answer};
+
+use crate::answer::{Answer, answer_to};
+use crate::status::Status;
+use axe_io::{Gate, Sink, Store, write_all};
+use std::alloc::Global;
+use std::marker::Sync;
+use std::sync::Wait;
+use std::thread::Threads;
+use verdict_text::verdict_text;
+
+/// Does the job of the words, which are those after the program's name, and writes the text of its verdict.
+///
+/// `out` grows by the text of a verdict that is right for the words and for what the store holds, and the status is
+/// the verdict's. At WriteFault, which comes only where the sink's count of faults rose, it grows by a beginning of
+/// that text; at ReadFault, which comes only where the store's count rose or where nothing stands under a name of
+/// the job, and at NoMemory it grows by nothing. Every input is tried, on one thread: the runtime and the gate aren't
+/// used.
+pub fn run<R: Threads + Wait + Sync, S: Store, K: Sink, G: Gate + Sync>(
+    _rt: &R,
+    alloc: Global,
+    words: &[String],
+    store: &mut S,
+    out: &mut K,
+    _gate: &G,
+) -> Status
+    ensures { RunEnds (map string_bytes words.now) (S.holds store.old) (S.faults store.old) (S.faults store.new)
+        (K.written out.old) (K.written out.new) (K.faults out.old) (K.faults out.new) result }
+{
+    match answer_to(alloc, words, store) {
+        Ok(answer) => put(alloc, &answer, out),
+        Err(stop) => Status::of_stop(&stop),
+    }
+}
+
+/// Writes the text of an answer.
+fn put<K: Sink>(alloc: Global, decided: &Answer, out: &mut K) -> Status
+    ensures { Wrote (answer decided.now) (K.written out.old) (K.written out.new) (K.faults out.old) (K.faults out.new) result }
+{
+    let text = verdict_text(
+        alloc,
+        &decided.verdict,
+        decided.shape.as_ref(),
+        decided.class.as_ref(),
+    );
+    let Ok(text) = text else {
+        return Status::NoMemory;
+    };
+    match write_all(out, &text) {
+        Ok(()) => Status::of(&decided.verdict),
+        Err(_) => Status::WriteFault,
+    }
+}
