@@ -1,0 +1,10 @@
+pub mod AbsorbingLaws
+pub mod ChoicesLaws
+pub mod ComparisonsLaws
+pub mod CutsLaws
+pub mod EqualLaws
+pub mod NeutralLaws
+pub mod OppositeLaws
+pub mod OrderLaws
+pub mod Viewing
+pub mod WordLaws

@@ -1,0 +1,6 @@
+use Rattle.bv_rules.proofs.Viewing.{keeps}
+use Rattle.bv_rules.proofs.AbsorbingLaws.{zero_times}
+use Rattle.bv_rules.proofs.absorbing.zero_times.Goals as goal
+
+pub returns-then-is_const : goal.returns-then-is_const
+returns-then-is_const c = keeps _ _ _ _ _ c.constant.ensures c.checked.ensures (zero_times _ _ _ _ c.in_ok-width.width _ c.in-Times.is (c.is_const.ensures c.if-is_const.true) c.requires)

@@ -1,0 +1,6 @@
+use Rattle.bv_rules.proofs.Viewing.{keeps}
+use Rattle.bv_rules.proofs.OrderLaws.{eq_swap}
+use Rattle.bv_rules.proofs.order.eq_swap.Goals as goal
+
+pub returns-then-b-a : goal.returns-then-b-a
+returns-then-b-a c = keeps _ _ _ _ _ c.two_old.ensures c.checked.ensures (eq_swap _ _ _ _ _ c.in-Eq.is c.requires)

@@ -1,0 +1,6 @@
+use Rattle.bv_rules.proofs.Viewing.{keeps}
+use Rattle.bv_rules.proofs.OrderLaws.{times_swap}
+use Rattle.bv_rules.proofs.order.times_swap.Goals as goal
+
+pub returns-then-b-a : goal.returns-then-b-a
+returns-then-b-a c = keeps _ _ _ _ _ c.two_old.ensures c.checked.ensures (times_swap _ _ _ _ _ c.in-Times.is c.requires)

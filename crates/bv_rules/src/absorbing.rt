@@ -1,0 +1,172 @@
+//! Absorbing constants: what a constant makes constant.
+
+ghost use Rattle.bv_rules.specs.Plans.{IsView, KeepsIf};
+
+use crate::gate::checked;
+use crate::plan::{NodeView, Plan, const_of, is_const};
+use bv_words::mask;
+use dag::{Dag, Node};
+
+/// `x & 0` is 0.
+pub(crate) fn and_zero(dag: &Dag, view: NodeView) -> Option<Plan>
+    requires { IsView dag.now view.node view.children }
+    ensures { KeepsIf dag.now view.node result }
+{
+    let Node::And(a, _) = view.node else {
+        return None;
+    };
+    let width = dag.width_at(a)?;
+    if is_const(view.children[1], 0) {
+        checked(dag, view.node, Plan::constant(width, 0))
+    } else {
+        None
+    }
+}
+
+/// `0 & x` is 0.
+pub(crate) fn zero_and(dag: &Dag, view: NodeView) -> Option<Plan>
+    requires { IsView dag.now view.node view.children }
+    ensures { KeepsIf dag.now view.node result }
+{
+    let Node::And(_, b) = view.node else {
+        return None;
+    };
+    let width = dag.width_at(b)?;
+    if is_const(view.children[0], 0) {
+        checked(dag, view.node, Plan::constant(width, 0))
+    } else {
+        None
+    }
+}
+
+/// `x * 0` is 0.
+pub(crate) fn times_zero(dag: &Dag, view: NodeView) -> Option<Plan>
+    requires { IsView dag.now view.node view.children }
+    ensures { KeepsIf dag.now view.node result }
+{
+    let Node::Times(a, _) = view.node else {
+        return None;
+    };
+    let width = dag.width_at(a)?;
+    if is_const(view.children[1], 0) {
+        checked(dag, view.node, Plan::constant(width, 0))
+    } else {
+        None
+    }
+}
+
+/// `0 * x` is 0.
+pub(crate) fn zero_times(dag: &Dag, view: NodeView) -> Option<Plan>
+    requires { IsView dag.now view.node view.children }
+    ensures { KeepsIf dag.now view.node result }
+{
+    let Node::Times(_, b) = view.node else {
+        return None;
+    };
+    let width = dag.width_at(b)?;
+    if is_const(view.children[0], 0) {
+        checked(dag, view.node, Plan::constant(width, 0))
+    } else {
+        None
+    }
+}
+
+/// `x | -1` is -1.
+pub(crate) fn or_ones(dag: &Dag, view: NodeView) -> Option<Plan>
+    requires { IsView dag.now view.node view.children }
+    ensures { KeepsIf dag.now view.node result }
+{
+    let Node::Or(a, _) = view.node else {
+        return None;
+    };
+    let width = dag.width_at(a)?;
+    let ones = mask(width);
+    if is_const(view.children[1], ones) {
+        checked(dag, view.node, Plan::constant(width, ones))
+    } else {
+        None
+    }
+}
+
+/// `-1 | x` is -1.
+pub(crate) fn ones_or(dag: &Dag, view: NodeView) -> Option<Plan>
+    requires { IsView dag.now view.node view.children }
+    ensures { KeepsIf dag.now view.node result }
+{
+    let Node::Or(_, b) = view.node else {
+        return None;
+    };
+    let width = dag.width_at(b)?;
+    let ones = mask(width);
+    if is_const(view.children[0], ones) {
+        checked(dag, view.node, Plan::constant(width, ones))
+    } else {
+        None
+    }
+}
+
+/// 0 moved up is 0.
+pub(crate) fn zero_shl(dag: &Dag, view: NodeView) -> Option<Plan>
+    requires { IsView dag.now view.node view.children }
+    ensures { KeepsIf dag.now view.node result }
+{
+    let Node::Shl(a, _) = view.node else {
+        return None;
+    };
+    let width = dag.width_at(a)?;
+    if is_const(view.children[0], 0) {
+        checked(dag, view.node, Plan::constant(width, 0))
+    } else {
+        None
+    }
+}
+
+/// 0 moved down is 0.
+pub(crate) fn zero_shr(dag: &Dag, view: NodeView) -> Option<Plan>
+    requires { IsView dag.now view.node view.children }
+    ensures { KeepsIf dag.now view.node result }
+{
+    let Node::Shr(a, _) = view.node else {
+        return None;
+    };
+    let width = dag.width_at(a)?;
+    if is_const(view.children[0], 0) {
+        checked(dag, view.node, Plan::constant(width, 0))
+    } else {
+        None
+    }
+}
+
+/// A shift by a constant from the width on is 0.
+pub(crate) fn shl_past(dag: &Dag, view: NodeView) -> Option<Plan>
+    requires { IsView dag.now view.node view.children }
+    ensures { KeepsIf dag.now view.node result }
+{
+    let Node::Shl(a, _) = view.node else {
+        return None;
+    };
+    let places = const_of(view.children[1])?;
+    let width = dag.width_at(a)?;
+    if width as u64 <= places {
+        checked(dag, view.node, Plan::constant(width, 0))
+    } else {
+        None
+    }
+}
+
+/// A shift by a constant from the width on is 0.
+pub(crate) fn shr_past(dag: &Dag, view: NodeView) -> Option<Plan>
+    requires { IsView dag.now view.node view.children }
+    ensures { KeepsIf dag.now view.node result }
+{
+    let Node::Shr(a, _) = view.node else {
+        return None;
+    };
+    let places = const_of(view.children[1])?;
+    let width = dag.width_at(a)?;
+    if width as u64 <= places {
+        checked(dag, view.node, Plan::constant(width, 0))
+    } else {
+        None
+    }
+}

@@ -1,0 +1,31 @@
+//! Local rules that replace a node by a plan of the same value.
+//!
+//! A rule looks at a node and its children's nodes, and answers a plan: at most 16 nodes over those of the graph, the
+//! last of which has the viewed node's width and, on every input, its value. A rule that doesn't apply answers None.
+//! No rule multiplies out a sum.
+//!
+//! - `plan`: views, plans and their makers
+//! - `gate`: the test that a plan fits, keeps the width and isn't dear; the proof of a rule is its value alone
+//! - `neutral`, `absorbing`, `equal`, `order`, `choices`, `cuts`: the rules, family by family
+//! - `picking`: the first rule that applies
+//!
+//! `specs/Plans.antt` says what a plan is and what it keeps; `docs` of each rule name its pattern and its result.
+#![tactic(auto)]
+
+mod absorbing;
+mod choices;
+mod comparisons;
+mod cuts;
+mod equal;
+mod gate;
+mod neutral;
+mod opposite;
+mod order;
+mod picking;
+mod plan;
+
+pub use picking::pick;
+pub use plan::{NodeView, Plan, PlanId, PlanNode};
+
+#[cfg(test)]
+mod tests;

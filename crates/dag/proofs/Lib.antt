@@ -1,0 +1,9 @@
+pub mod Bounds
+pub mod Growing
+pub mod Inverting
+pub mod Lists
+pub mod Reading
+pub mod Replacing
+pub mod Sets
+pub mod Values
+pub mod Words
