@@ -1,0 +1,4 @@
+pub mod Resolving
+pub mod Logs
+pub mod Marking
+mod Listing

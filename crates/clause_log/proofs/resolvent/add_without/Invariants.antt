@@ -1,0 +1,11 @@
+use Rattle.std.proofs.Common.{◌≡◌, ◌++◌, List, take, length}
+use Rattle.cnf_clauses.specs.Literal.{Literal}
+use Rattle.clause_log.specs.Resolution.{first_places, without}
+use Rattle.clause_log.specs.Marks.{IsMarked}
+use Rattle.clause_log.proofs.resolvent.add_without.Given as goal
+
+abbrev pub invariant-loop-lit : goal.invariant-loop-lit
+invariant-loop-lit l =
+    ((xs : List Literal) → l.initial.literals.items ≡ first_places xs → l.literals.items ≡ first_places (xs ++ without l.but (take l.lit-index l.clause)))
+    × IsMarked l.marks.items l.literals.items
+    × (length l.marks.items ≡ length l.initial.marks.items)

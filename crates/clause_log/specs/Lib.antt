@@ -1,0 +1,5 @@
+pub mod Resolution
+pub mod Line
+pub mod Log
+pub mod Missing
+pub mod Marks

@@ -1,0 +1,10 @@
+pub mod Paths
+pub mod Searches
+pub mod Watches
+pub mod Passes
+pub mod Analysis
+pub mod Learning
+pub mod Lasts
+pub mod Renewed
+pub mod Starts
+pub mod Models

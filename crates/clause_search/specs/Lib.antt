@@ -1,0 +1,12 @@
+pub mod Path
+pub mod Trail
+pub mod Watch
+pub mod WatchStep
+pub mod Pass
+pub mod Lists
+pub mod State
+pub mod Learnt
+pub mod New
+pub mod Last
+pub mod Start
+pub mod Found

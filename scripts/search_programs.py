@@ -1,0 +1,59 @@
+"""The programs that the scripts run: the search of this repository, and packaged solvers where they are installed."""
+
+import os
+import shutil
+import subprocess
+import tempfile
+import time
+
+ROOT = os.path.dirname(os.path.dirname(os.path.abspath(__file__)))
+PROGRAM = os.path.join(ROOT, "crates", "search_dimacs", "out", "search_dimacs")
+
+
+def built_program():
+    """The search, which is built where it isn't there."""
+    if not os.path.exists(PROGRAM):
+        folder = os.path.join(ROOT, "crates", "search_dimacs")
+        subprocess.run(["rt", "run"], cwd=folder, stdin=subprocess.DEVNULL, stdout=subprocess.DEVNULL, check=True)
+    return PROGRAM
+
+
+def packaged_solver():
+    """A packaged solver, or None."""
+    return shutil.which("minisat") or shutil.which("picosat")
+
+
+def run(command, text, seconds):
+    """What a command prints of a formula, how long it took and the most memory that it had, in seconds and MiB."""
+    with tempfile.TemporaryFile() as given, tempfile.TemporaryFile() as out, tempfile.TemporaryFile() as notes:
+        given.write(text.encode())
+        given.seek(0)
+        start = time.monotonic()
+        process = subprocess.Popen(command, stdin=given, stdout=out, stderr=notes)
+        status = usage = None
+        while status is None:
+            pid, code, usage = os.wait4(process.pid, os.WNOHANG)
+            if pid:
+                status = code
+            elif time.monotonic() - start > seconds:
+                process.kill()
+                os.wait4(process.pid, 0)
+                return None, seconds, 0, ""
+            else:
+                time.sleep(0.002)
+        took = time.monotonic() - start
+        process.returncode = status
+        out.seek(0)
+        notes.seek(0)
+        return out.read().decode(), took, usage.ru_maxrss / 1024, notes.read().decode()
+
+
+def answer_of(printed):
+    """True for a model, False for none, None where the program gave up."""
+    if printed is None:
+        return None
+    if "UNSATISFIABLE" in printed:
+        return False
+    if "SATISFIABLE" in printed:
+        return True
+    return None
