@@ -1,5 +1,7 @@
 use Rattle.std.proofs.Common.{◌≡◌, ℕ, suc, ◌+◌, ◌-◌, ◌*◌, ◌/◌, ◌%◌, ◌^◌, ◌<◌, ◌≤◌, refl, sym, ◌∙◌, ap, subst, arith, rules, zero, ◌≢◌, true, false}
-use Rattle.std.specs.Prelude.{bit_and, bit_or, nat_lt, pos, negsuc, ◌-ℤ◌}
+use Rattle.std.specs.Prelude.{bit_and, bit_or, nat_lt, pos, negsuc, ◌-ℤ◌, unsigned_abs}
+use Rattle.std.specs.Int.{int_rem_euclid}
+use Rattle.std.proofs.lemmas.Int.{int_rem_euclid_is}
 use Rattle.std.proofs.lemmas.Int.{ints}
 use Rattle.std.proofs.lemmas.Bool.Decides.{nat_tests}
 use Rattle.std.proofs.Math.Nat.{pow-le-pow_right}
@@ -7,7 +9,7 @@ use Rattle.std.proofs.lemmas.Nat.{pow_pos, or_shifted, shl_whole, and_mask, pow-
 use Rattle.std.proofs.lemmas.Nat.Bits.{ones_shr}
 use Rattle.std.proofs.Math.Pow.{mod-mod-pow}
 use Rattle.std.proofs.Math.Nat.{mod-eq_of_lt, mod_self, mul-one, div-eq_of_lt, mul-mod_left, mul-add-mod_self_right}
-use Rattle.bv_words.specs.Words.{chop, chop_wide, signed, cat, sx, neg, plus, times, slt, shl, shr, rotate_left}
+use Rattle.bv_words.specs.Words.{chop, chop_wide, signed, cat, sx, neg, plus, minus, times, slt, shl, shr, rotate_left}
 
 -- a mask of 64 bits comes before one of w
 pub mod_down : (w n : ℕ) → w ≤ 64 → n % 2 ^ 64 % 2 ^ w ≡ n % 2 ^ w
@@ -102,6 +104,26 @@ neg_is w x h p =
     let whole : 2 ^ 64 ≡ 2 ^ (64 - w) * 2 ^ w = subst (λ (j : ℕ). 2 ^ j ≡ 2 ^ (64 - w) * 2 ^ w) e (pow-add 2 (64 - w) w) in
     let z : 0 + (2 ^ 64 - x) ≡ 2 ^ 64 - x = omega arith in
     rw z (mod_down w (2 ^ 64 - x) h) ∙ ap (λ (n : ℕ). (n - x) % 2 ^ w) whole ∙ far (2 ^ (64 - w)) (2 ^ w) x pos le ∙ sym (neg_nat w x le)
+
+far_sum : (q m x y : ℕ) → 0 < q → y < m → (x + (q * m - y)) % m ≡ (x + (m - y)) % m
+far_sum zero m x y p h = absurd (omega arith)
+far_sum (suc k) m x y p h = let e : x + (suc k * m - y) ≡ k * m + (x + (m - y)) = omega arith in rw e (mul-add-mod_self_right k m (x + (m - y)))
+
+-- a difference of words, taken modulo 2 ^ w
+less_word : (w x y : ℕ) → x < 2 ^ w → y < 2 ^ w → (x + (2 ^ w - y)) % 2 ^ w ≡ unsigned_abs (int_rem_euclid (pos x -ℤ pos y) (pos (2 ^ w)))
+less_word w x y p q = ap unsigned_abs (sym (int_rem_euclid_is (pos x -ℤ pos y) (pos (2 ^ w)) (2 ^ w) 1 (x + (2 ^ w - y)) (pow_pos w) refl (omega (arith, ints, q))))
+
+-- a difference modulo 2 ^ 64 and one modulo 2 ^ w are apart by a multiple of 2 ^ w
+apart : (w x y : ℕ) → w ≤ 64 → x < 2 ^ w → y < 2 ^ w → (x + (2 ^ 64 - y)) % 2 ^ w ≡ (x + (2 ^ w - y)) % 2 ^ w
+apart w x y h p q =
+    let pos : 0 < 2 ^ (64 - w) = pow_pos (64 - w) in
+    let e : 64 - w + w ≡ 64 = omega arith in
+    let whole : 2 ^ 64 ≡ 2 ^ (64 - w) * 2 ^ w = subst (λ (j : ℕ). 2 ^ j ≡ 2 ^ (64 - w) * 2 ^ w) e (pow-add 2 (64 - w) w) in
+    ap (λ (n : ℕ). (x + (n - y)) % 2 ^ w) whole ∙ far_sum (2 ^ (64 - w)) (2 ^ w) x y pos q
+
+pub minus_is : (w x y : ℕ) → w ≤ 64 → x < 2 ^ w → y < 2 ^ w → chop w ((x + (2 ^ 64 - y)) % 2 ^ 64) ≡ minus w x y
+unfolding chop minus chop_wide
+minus_is w x y h p q = mod_down w (x + (2 ^ 64 - y)) h ∙ apart w x y h p q ∙ less_word w x y p q
 
 pub ones_rise : (new old : ℕ) → old ≤ new → 2 ^ old - 1 ≤ 2 ^ new - 1
 ones_rise new old h = let two : 0 < 2 = omega arith in let p : 2 ^ old ≤ 2 ^ new = pow-le-pow_right two h in omega arith

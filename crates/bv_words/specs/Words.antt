@@ -38,6 +38,10 @@ bit_not width x = bit_xor x (2 ^ width - 1)
 unfoldable pub plus : ℕ → ℕ → ℕ → ℕ
 plus width x y = chop width (x + y)
 
+-- the difference modulo 2 ^ width
+unfoldable pub minus : ℕ → ℕ → ℕ → ℕ
+minus width x y = chop_wide width (pos x -ℤ pos y)
+
 -- the product modulo 2 ^ width
 unfoldable pub times : ℕ → ℕ → ℕ → ℕ
 times width x y = chop width (x * y)
@@ -57,6 +61,10 @@ shr width x amount = cond (nat_lt amount width) (x / 2 ^ amount) 0
 -- up by an amount modulo the width; what leaves above comes in below
 unfoldable pub rotate_left : ℕ → ℕ → ℕ → ℕ
 rotate_left width amount x = chop width (x * 2 ^ (amount % width)) + x / 2 ^ (width - amount % width)
+
+-- down by an amount modulo the width: up by what is left of the width; what leaves below comes in above
+unfoldable pub rotate_right : ℕ → ℕ → ℕ → ℕ
+rotate_right width amount x = rotate_left width (width - amount % width) x
 
 -- a bit of a truth value: 1 where it is true
 abbrev pub one_if : Bool → ℕ

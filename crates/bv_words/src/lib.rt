@@ -6,10 +6,10 @@
 //! clauses all cite these lines, so that a word operation means the same in each of them.
 //!
 //! - `cuts`: parts of words, `chop`, `chop_wide`, `slice`, `cat`, `sx` and `mask`
-//! - `arithmetic`: `neg`, `plus` and `times`
+//! - `arithmetic`: `neg`, `plus`, `minus` and `times`
 //! - `logic`: `not`, `and`, `or` and `xor`
 //! - `order`: `ult` and `slt`
-//! - `shifts`: `shl`, `shr` and `rotate_left`
+//! - `shifts`: `shl`, `shr`, `rotate_left` and `rotate_right`
 //!
 //! No function here allocates, and none has a refusal: what it needs is its `requires`. For callers'
 //! proofs, `proofs/Bounds.antt` has a bound for each word, and `proofs/Laws.antt` the equations that
@@ -22,11 +22,11 @@ mod logic;
 mod order;
 mod shifts;
 
-pub use arithmetic::{neg, plus, times};
+pub use arithmetic::{minus, neg, plus, times};
 pub use cuts::{cat, chop, chop_wide, mask, slice, sx};
 pub use logic::{and, not, or, xor};
 pub use order::{slt, ult};
-pub use shifts::{rotate_left, shl, shr};
+pub use shifts::{rotate_left, rotate_right, shl, shr};
 
 #[cfg(test)]
 mod tests;

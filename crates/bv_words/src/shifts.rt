@@ -1,7 +1,7 @@
 //! Shifts, whose amount isn't masked, and rotation, whose amount is taken modulo the width.
 
 ghost use Rattle.std.specs.Prelude.{◌≡◌, ℕ, ◌^◌, ◌<◌, ◌≤◌};
-ghost use Rattle.bv_words.specs.Words.{shl as shl_of, shr as shr_of, rotate_left as rotate_left_of};
+ghost use Rattle.bv_words.specs.Words.{shl as shl_of, shr as shr_of, rotate_left as rotate_left_of, rotate_right as rotate_right_of};
 
 use crate::cuts::chop;
 
@@ -50,4 +50,17 @@ pub fn rotate_left(width: u32, amount: u64, x: u64) -> u64
     } else {
         chop(width, x << turn) | (x >> (width - turn))
     }
+}
+
+/// `x` turned down by any `amount` modulo the width: what leaves below comes in above.
+#[tactic(auto, unfolding(crate::specs::Words::rotate_right))]
+pub fn rotate_right(width: u32, amount: u64, x: u64) -> u64
+    requires low { 1 ≤ width }
+    requires high { width ≤ 64 }
+    requires word { x < 2 ^ width }
+    ensures value { result ≡ rotate_right_of width amount x }
+    ensures word { result < 2 ^ width }
+{
+    let width_wide = u64::from(width);
+    rotate_left(width, width_wide - amount % width_wide, x)
 }

@@ -39,6 +39,11 @@ fn arithmetic_wraps(rt: HostRuntime) {
     assert_eq!(rt; plus(8, 0xff, 1), 0);
     assert_eq!(rt; plus(64, u64::MAX, 2), 1);
     assert_eq!(rt; plus(1, 1, 1), 0);
+    assert_eq!(rt; minus(8, 3, 5), 0xfe);
+    assert_eq!(rt; minus(8, 5, 3), 2);
+    assert_eq!(rt; minus(1, 0, 1), 1);
+    assert_eq!(rt; minus(64, 0, 1), u64::MAX);
+    assert_eq!(rt; minus(64, u64::MAX, u64::MAX), 0);
     assert_eq!(rt; times(8, 0x10, 0x10), 0);
     assert_eq!(rt; times(32, 0x0001_0001, 0x0001_0001), 0x0002_0001);
     assert_eq!(rt; times(64, u64::MAX, u64::MAX), 1);
@@ -75,4 +80,11 @@ fn shifts_and_rotations(rt: HostRuntime) {
     assert_eq!(rt; rotate_left(32, 7, 0x8000_0001), 0xc0);
     assert_eq!(rt; rotate_left(64, u64::MAX, 1), 1 << 63);
     assert_eq!(rt; rotate_left(3, 2, 0b110), 0b011);
+    assert_eq!(rt; rotate_right(8, 1, 0x81), 0xc0);
+    assert_eq!(rt; rotate_right(8, 0, 0x81), 0x81);
+    assert_eq!(rt; rotate_right(8, 16, 0x81), 0x81);
+    assert_eq!(rt; rotate_right(8, 9, 0x81), 0xc0);
+    assert_eq!(rt; rotate_right(32, 7, 0xc0), 0x8000_0001);
+    assert_eq!(rt; rotate_right(64, u64::MAX, 1), 2);
+    assert_eq!(rt; rotate_right(3, 2, 0b110), 0b101);
 }

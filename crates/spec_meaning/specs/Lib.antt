@@ -1,3 +1,10 @@
-pub mod Operations
+pub mod Faults
+pub mod Operands
+pub mod Checks
+pub mod WideSums
+pub mod Table
+pub mod Work
 pub mod Evaluations
+pub mod Stacks
 pub mod Arguments
+pub mod Visits

@@ -1,5 +1,8 @@
 ghost use Rattle.std.specs.Prelude.{◌≤◌, length};
 
+mod forms;
+mod functions;
+
 use crate::{SpecEnd, Value, eval};
 use spec_reader::{FunId, SpecError, read_spec};
 use std::alloc::Global;

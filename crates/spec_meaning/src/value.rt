@@ -1,7 +1,4 @@
-ghost use Rattle.std.specs.Prelude.{◌≡◌, IfOk};
-
 use sqlite_items::Items;
-use std::alloc::{AllocError, Global};
 
 /// A value of the language.
 #[derive(Debug, Drop)]
@@ -42,15 +39,4 @@ pub enum SpecEnd {
     MoreDepth,
     /// More forms would be visited than may be.
     MoreWork,
-}
-
-/// An equal value.
-pub(crate) fn copied(alloc: Global, value: &Value) -> Result<Value, AllocError>
-    ensures { IfOk result (λ copy. copy ≡ value.now) }
-{
-    match value {
-        Value::Number(number) => Ok(Value::Number(*number)),
-        Value::T => Ok(Value::T),
-        Value::List(numbers) => Ok(Value::List(Items::from_slice(alloc, numbers.as_slice())?)),
-    }
 }

@@ -1,3 +1,11 @@
+pub mod Faults
 pub mod Steps
+pub mod Digits
+pub mod Texts
 pub mod Outermost
 pub mod Spelled
+pub mod LastPart
+pub mod Scopes
+pub mod Meanings
+pub mod Definitions
+pub mod Freshness

@@ -1,6 +1,9 @@
 pub mod Reading
+pub mod Numbers
 pub mod Tokens
 pub mod Nesting
+pub mod Calls
 pub mod Names
+pub mod Expressions
 pub mod Forms
 pub mod Programs

@@ -1,65 +1,61 @@
 -- The program that a text spells.
-use Rattle.std.specs.Prelude.{ℕ, Bool, false, not, ◌||◌, nat_lt, if◌then◌else◌, List, [], ◌∷◌, length, codes, map, position, Option, Some, None, Result, Ok, Err}
+use Rattle.std.specs.Prelude.{ℕ, ◌+◌, Bool, false, ◌&&◌, ◌==◌, if◌then◌else◌, List, [], ◌∷◌, ◌++◌, length, map, position, Option, Some, None, Result, Ok, Err}
 use Rattle.std.specs.Str.{bytes_eq}
 use Rattle.spec_reader.specs.declared.error.SpecError.{SpecError}
-use Rattle.spec_reader.specs.declared.error.SpecError.TheVariants.{BadForm, Duplicate}
-use Rattle.spec_reader.specs.declared.datum.Datum.{Datum}
-use Rattle.spec_reader.specs.declared.datum.Datum.TheOpen.{Datum-F}
-use Rattle.spec_reader.specs.declared.datum.Datum.TheOpen as layer
-use Rattle.spec_reader.specs.declared.datum.Datum.TheViews.{out-Datum}
+use Rattle.spec_reader.specs.declared.error.SpecError.TheVariants.{Duplicate}
+use Rattle.spec_reader.specs.declared.expression.Definition.{Definition}
+use Rattle.spec_reader.specs.declared.form.Form.{Form}
+use Rattle.spec_reader.specs.declared.meaning.Meaning.{Meaning}
 use Rattle.spec_reader.specs.declared.program.Function.{Function}
 use Rattle.spec_reader.specs.declared.program.Program.{Program}
 use Rattle.spec_reader.specs.Reading.{◌>>=◌}
-use Rattle.spec_reader.specs.Tokens.{lower, tokens_of}
+use Rattle.spec_reader.specs.Numbers.{lower}
+use Rattle.spec_reader.specs.Tokens.{tokens_of}
 use Rattle.spec_reader.specs.Nesting.{nested}
-use Rattle.spec_reader.specs.Names.{is_free, are_distinct, are_variables}
-use Rattle.spec_reader.specs.Forms.{Reading, reading, names_of}
+use Rattle.spec_reader.specs.Names.{is_free, are_distinct}
+use Rattle.spec_reader.specs.Expressions.{reading, definitions}
+use Rattle.spec_reader.specs.Forms.{Meanings, count, entries, meaning_of, resolve}
 
-abbrev pub is_defun : Option (List ℕ) → Bool
-is_defun (Some w) = bytes_eq w (codes "defun")
-is_defun None = false
+abbrev pub is_number : ℕ → Option Meaning → Bool
+is_number number None = false
+is_number number (Some m) = m.number == number
 
-abbrev pub names_read : List Datum → Option (List (List ℕ))
-names_read ds = names_of (map (λ part. part.name) (map reading ds))
+-- a name of no form of the language, which is defined here first
+abbrev pub may_define : Meanings → ℕ → List ℕ → Bool
+may_define names number name = is_free name && is_number number (names name)
 
--- a function of this name and these formals, where they may stand in a definition; a text has no room for more
--- than a million formals
-abbrev pub with_names : ℕ → List ℕ → List (List ℕ) → Reading → Result Function SpecError
-with_names at name formals body =
-    if nat_lt 1048576 (length formals) || not (are_variables formals) then Err (BadForm at)
-    else if not (is_free name) || not (are_distinct formals) then Err (Duplicate at)
-    else (body.form formals >>= λ form. Ok (record { name = name; formals = length formals; body = form }))
+-- the body of a function in the scope of its formals; the value of a constant without variables
+abbrev pub body_of : Meanings → Definition → Option (List (List ℕ)) → Result Form SpecError
+body_of names d (Some formals) = if are_distinct formals then resolve d.body names formals else Err (Duplicate d.at)
+body_of names d None = resolve d.body names []
 
-abbrev pub with_parts : ℕ → Option (List ℕ) → Option (List (List ℕ)) → Reading → Result Function SpecError
-with_parts at (Some name) (Some formals) body = with_names at name formals body
-with_parts at None formals body = Err (BadForm at)
-with_parts at (Some name) None body = Err (BadForm at)
+abbrev pub defined : Meanings → ℕ → Definition → Result Form SpecError
+defined names number d = if may_define names number d.name then body_of names d d.formals else Err (Duplicate d.at)
 
-abbrev pub definition_parts : ℕ → List Reading → Result Function SpecError
-definition_parts at (keyword ∷ name ∷ formals ∷ body ∷ []) = if is_defun keyword.name then with_parts at name.name formals.names body else Err (BadForm at)
-definition_parts at _ = Err (BadForm at)
+abbrev pub no_definitions : Program
+no_definitions = record { functions = []; constants = [] }
 
-abbrev pub definition_in : Datum-F Datum → Result Function SpecError
-definition_in (layer.List at end parts) = definition_parts at (map reading parts)
-definition_in _ = Err (BadForm 0)
+-- a program with one definition more
+abbrev pub added : Program → List ℕ → Form → Option (List (List ℕ)) → Program
+added program name body (Some formals) = record { functions = program.functions ++ record { name = name; formals = count (length formals); body = body } ∷ []; constants = program.constants }
+added program name body None = record { functions = program.functions; constants = program.constants ++ record { name = name; value = body } ∷ [] }
 
--- the function that a datum of the top level defines
-abbrev pub definition_of : Datum → Result Function SpecError
-definition_of d = definition_in (out-Datum d)
+-- the program of definitions behind so many others, which gave this program
+abbrev pub program_from : Meanings → Program → ℕ → List Definition → Result Program SpecError
+program_from names program number [] = Ok program
+program_from names program number (d ∷ ds) = defined names number d >>= λ body. program_from names (added program d.name body d.formals) (number + 1) ds
 
-abbrev pub program_with : Function → Program
-program_with function = record { functions = function ∷ [] }
+abbrev pub program_with : List Definition → Result Program SpecError
+program_with ds = program_from (meaning_of (entries ds)) no_definitions 0 ds
 
-abbrev pub only : List Datum → Result Program SpecError
-only (d ∷ []) = definition_of d >>= λ function. Ok (program_with function)
-only _ = Err (BadForm 0)
-
--- the program that the bytes spell, or their first fault
+-- the program that the bytes spell, or their first fault: of their tokens, of their parentheses, of their forms,
+-- of their names
 abbrev pub program_of : List ℕ → Result Program SpecError
 program_of bytes = do
   tokens ← tokens_of bytes
   data' ← nested tokens
-  only data'
+  definitions' ← definitions (map reading data')
+  program_with definitions'
 
 -- two names are one without regard to case
 abbrev pub same_name : List ℕ → List ℕ → Bool

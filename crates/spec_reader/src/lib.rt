@@ -1,23 +1,33 @@
-//! The reader of specifications: from bytes to the functions that they define.
+//! The reader of specifications: from bytes to the functions and the constants that they define.
 //!
-//! A specification is a text of a small part of ACL2. Reading it takes four steps, each a function on whole lists
-//! or trees: `token` splits bytes into tokens, `nesting` groups tokens into data by their parentheses, `form` reads
-//! a datum as an expression, and `program` reads the data of the top level as definitions.
+//! A specification is a text of a small part of ACL2. Reading it takes five steps, each a function on whole lists
+//! or trees: `token` splits bytes into tokens, `nesting` groups tokens into data by their parentheses, `syntax` and
+//! `definition` read data as expressions and definitions whose names are words, and `resolve` looks these up.
+//! `program` puts the steps together, so that the first fault is that of the earliest step.
 #![tactic(auto)]
 
 mod builtin;
+mod calls;
 mod datum;
+mod definition;
 mod error;
+mod expression;
 mod form;
+mod keyword;
+mod meaning;
 mod names;
 mod nesting;
+mod number;
+mod parts;
 mod program;
+mod resolve;
+mod syntax;
 mod token;
 
 pub use builtin::Builtin;
 pub use error::SpecError;
 pub use form::{Form, FormKind};
-pub use program::{FunId, Function, Program, read_spec};
+pub use program::{ConstId, FunId, Function, NamedConstant, Program, read_spec};
 
 #[cfg(test)]
 mod tests;

@@ -1,23 +1,28 @@
-ghost use Rattle.std.specs.Prelude.{◌≡◌, ℕ, ◌+◌, ◌≤◌, ◌<◌, [], ◌∷◌, length, codes, map, option_map, is_some, IfSome, IfOk, Ok, MatchResult, Some, slice_get};
-ghost use Rattle.spec_reader.specs.Reading.{Gives, with_front};
-ghost use Rattle.spec_reader.specs.Forms.{reading, names_of, form_of};
-ghost use Rattle.spec_reader.specs.Programs.{is_defun, definition_of, definition_parts, program_of, names_read, with_parts, with_names, program_with, same_name, function_named};
+ghost use Rattle.std.specs.Prelude.{◌≡◌, ◌≤◌, ◌<◌, length, map, option_map, Some, slice_get, OnOk};
+ghost use Rattle.spec_reader.specs.Reading.{Gives};
+ghost use Rattle.spec_reader.specs.Expressions.{reading};
+ghost use Rattle.spec_reader.specs.Forms.{meaning_in};
+ghost use Rattle.spec_reader.specs.Programs.{program_of, added, program_with, may_define, body_of, defined, same_name, function_named};
 
-use crate::datum::Datum;
+use crate::definition::definitions;
 use crate::error::SpecError;
-use crate::form::{Form, form_of};
-use crate::names::{are_distinct, are_variables, is_free};
+use crate::expression::Definition;
+use crate::form::Form;
+use crate::meaning::{Names, names_of};
+use crate::names::{are_distinct, is_free};
 use crate::nesting::nested;
+use crate::resolve::{bind, count, resolve};
 use crate::token::tokens;
 use sqlite_items::Items;
 use std::alloc::{AllocError, Global};
 
-/// How many formals a function may have: as many as a text of 1,048,576 bytes has room for.
-const MOST_FORMALS: usize = 1_048_576;
-
 /// A function by its place among those of a program.
 #[derive(Clone, Copy, Debug, PartialEq, Eq)]
 pub struct FunId(pub usize);
+
+/// A named constant by its place among those of a program.
+#[derive(Clone, Copy, Debug, PartialEq, Eq)]
+pub struct ConstId(pub usize);
 
 /// A function: its name in lower case, the number of its formals, and its body.
 #[derive(Drop)]
@@ -27,10 +32,18 @@ pub struct Function {
     pub body: Form,
 }
 
-/// The functions that a text defines, in its order.
+/// A named constant: its name in lower case, and the expression that is evaluated at each use.
+#[derive(Drop)]
+pub struct NamedConstant {
+    pub name: Items<u8>,
+    pub value: Form,
+}
+
+/// The functions and the constants that a text defines, each in its order.
 #[derive(Drop)]
 pub struct Program {
     pub functions: Items<Function>,
+    pub constants: Items<NamedConstant>,
 }
 
 impl Program {
@@ -56,6 +69,14 @@ impl Program {
     {
         &self.functions.as_slice()[function.0].body
     }
+
+    /// The expression of a named constant.
+    pub fn value_of(&self, constant: ConstId) -> &Form
+        requires { constant.0 < length self.now.constants }
+        ensures { option_map (λ c. c.value) (slice_get self.now.constants constant.0) ≡ Some result.now }
+    {
+        &self.constants.as_slice()[constant.0].value
+    }
 }
 
 /// The place of the first function of a name.
@@ -76,133 +97,94 @@ fn same_name(first: &[u8], second: &[u8]) -> bool
 
 /// The program that the bytes spell.
 ///
-/// Ok comes exactly where they spell one, and each error but Memory exactly where it is their first fault.
+/// Ok comes exactly where they spell one, and each error but Memory exactly where it is their first fault: tokens
+/// are read first, then parentheses, then forms in their order, and then names in their order.
 pub fn read_spec(alloc: Global, bytes: &[u8]) -> Result<Program, SpecError>
     requires { length bytes.now ≤ 1048576 }
     ensures { Gives (λ program. program) result (program_of bytes.now) }
 {
     let tokens = tokens(alloc, bytes)?;
     let data = nested(alloc, &tokens)?;
-    match data.as_slice() {
-        [datum] => program_with(alloc, definition(alloc, datum)?),
-        _ => Err(SpecError::BadForm { at: 0 }),
-    }
+    let definitions = definitions(alloc, data.as_slice())?;
+    program_with(alloc, definitions.as_slice())
 }
 
-fn program_with(alloc: Global, function: Function) -> Result<Program, SpecError>
-    ensures { Gives (λ program. program) result (Ok (program_with function)) }
+/// The program of some definitions.
+fn program_with(alloc: Global, definitions: &[Definition]) -> Result<Program, SpecError>
+    ensures { Gives (λ program. program) result (program_with definitions.now) }
 {
-    let mut functions = Items::new(alloc);
-    functions.push(function)?;
-    Ok(Program { functions })
-}
-
-/// The function that a datum of the top level defines.
-fn definition(alloc: Global, datum: &Datum) -> Result<Function, SpecError>
-    ensures { Gives (λ function. function) result (definition_of datum.now) }
-{
-    match datum {
-        Datum::List(at, _, parts) => definition_parts(alloc, *at, parts.as_slice()),
-        _ => Err(SpecError::BadForm { at: 0 }),
-    }
-}
-
-/// The function that the parts of a list define.
-fn definition_parts(alloc: Global, at: u32, parts: &[Datum]) -> Result<Function, SpecError>
-    ensures { Gives (λ function. function) result (definition_parts at (map reading parts.now)) }
-{
-    if parts.len() != 4 {
-        return Err(SpecError::BadForm { at });
-    }
-    if !is_defun(&parts[0]) {
-        return Err(SpecError::BadForm { at });
-    }
-    with_parts(alloc, at, &parts[1], &parts[2], &parts[3])
-}
-
-fn with_parts(
-    alloc: Global,
-    at: u32,
-    name: &Datum,
-    formals: &Datum,
-    body: &Datum,
-) -> Result<Function, SpecError>
-    ensures { Gives (λ function. function) result (with_parts at (reading name.now).name (reading formals.now).names (reading body.now)) }
-{
-    let Some(name) = name_of(name) else {
-        return Err(SpecError::BadForm { at });
+    let names = names_of(alloc, definitions)?;
+    let mut program = Program {
+        functions: Items::new(alloc),
+        constants: Items::new(alloc),
     };
-    let Some(names) = names_of(alloc, formals)? else {
-        return Err(SpecError::BadForm { at });
-    };
-    with_names(alloc, at, name, &names, body)
+    for (number, definition) in definitions.iter().enumerate() {
+        let body = defined(alloc, &names, number, definition)?;
+        add(alloc, &mut program, definition, body)?;
+    }
+    Ok(program)
 }
 
-/// The function of a name and formals, where these may stand in a definition.
-fn with_names(
+/// The body or the value of a definition, where its name may be defined there.
+fn defined(
     alloc: Global,
-    at: u32,
-    name: &[u8],
-    formals: &[Items<u8>],
-    body: &Datum,
-) -> Result<Function, SpecError>
-    ensures { Gives (λ function. function) result (with_names at name.now formals.now (reading body.now)) }
+    names: &Names<'_>,
+    number: usize,
+    definition: &Definition,
+) -> Result<Form, SpecError>
+    ensures { Gives (λ form. form) result (defined (meaning_in names.now) number definition.now) }
 {
-    if formals.len() > MOST_FORMALS || !are_variables(formals) {
-        return Err(SpecError::BadForm { at });
-    }
-    if !is_free(name) || !are_distinct(formals) {
+    let at = definition.at;
+    if !may_define(names, number, definition.name.as_slice()) {
         return Err(SpecError::Duplicate { at });
     }
-    let body = form_of(alloc, formals, body)?;
-    let name = Items::from_slice(alloc, name)?;
-    Ok(Function {
-        name,
-        formals: formals.len() as u32,
-        body,
-    })
+    body_of(alloc, names, definition)
 }
 
-/// The name that a datum is, if it is one.
-fn name_of(datum: &Datum) -> Option<&[u8]>
-    ensures { option_map (λ name. name.now) result ≡ (reading datum.now).name }
+/// Whether a name is that of no form of the language, and is defined here first.
+fn may_define(names: &Names<'_>, number: usize, name: &[u8]) -> bool
+    ensures { result ≡ may_define (meaning_in names.now) number name.now }
 {
-    match datum {
-        Datum::Word(_, word) => Some(word.as_slice()),
-        _ => None,
+    if !is_free(name) {
+        return false;
+    }
+    match names.meaning_of(name) {
+        Some(meaning) => meaning.number == number,
+        None => false,
     }
 }
 
-/// The names in a datum, if it is a list of words.
-fn names_of(alloc: Global, datum: &Datum) -> Result<Option<Vec<Items<u8>>>, AllocError>
-    ensures { IfOk result (λ found. option_map (λ v. v.items) found ≡ (reading datum.now).names) }
+/// The body of a function in the scope of its formals, or the value of a constant.
+fn body_of(alloc: Global, names: &Names<'_>, definition: &Definition) -> Result<Form, SpecError>
+    ensures { Gives (λ form. form) result (body_of (meaning_in names.now) definition.now definition.now.formals) }
 {
-    match datum {
-        Datum::List(_, _, parts) => names(alloc, parts.as_slice()),
-        _ => Ok(None),
+    let mut scope = Vec::new(alloc);
+    if let Some(formals) = &definition.formals {
+        if !are_distinct(alloc, formals.as_slice())? {
+            let at = definition.at;
+            return Err(SpecError::Duplicate { at });
+        }
+        bind(alloc, &mut scope, formals.as_slice())?;
     }
+    resolve(alloc, names, &mut scope, &definition.body)
 }
 
-/// Whether a datum is the word of a definition.
-fn is_defun(datum: &Datum) -> bool
-    ensures { result ≡ is_defun (reading datum.now).name }
+/// Adds a definition with its resolved body.
+fn add(
+    alloc: Global,
+    program: &mut Program,
+    definition: &Definition,
+    body: Form,
+) -> Result<(), AllocError>
+    ensures { OnOk result (program.new ≡ added program.old definition.now.name body definition.now.formals) }
 {
-    match datum {
-        Datum::Word(_, word) => word.as_slice() == b"defun".as_slice(),
-        _ => false,
+    let name = Items::from_slice(alloc, definition.name.as_slice())?;
+    match &definition.formals {
+        Some(formals) => program.functions.push(Function {
+            name,
+            formals: count(formals.len()),
+            body,
+        }),
+        None => program.constants.push(NamedConstant { name, value: body }),
     }
-}
-
-/// The names, where all are words.
-fn names(alloc: Global, data: &[Datum]) -> Result<Option<Vec<Items<u8>>>, AllocError>
-    ensures { IfOk result (λ found. option_map (λ v. v.items) found ≡ names_read data.now) }
-{
-    let mut names = Vec::new(alloc);
-    for datum in data {
-        let Datum::Word(_, word) = datum else {
-            return Ok(None);
-        };
-        names.push(Items::from_slice(alloc, word.as_slice())?)?;
-    }
-    Ok(Some(names))
 }

@@ -1,46 +1,502 @@
-use crate::{Builtin, FormKind, SpecError, read_spec};
+use crate::{Form, FormKind, Program, SpecError, read_spec};
+use std::alloc::Global;
 use std::test::Fail;
 
+/// A file in the form in which ACL2 users write it.
+const ACL2_FILE: &[u8] = b"; a word of 16 bits
+(in-package \"ACL2\")
+(include-book \"kestrel/bv/top\" :dir :system)
+#| (defun g () ')' |#
+(local (in-theory '(natp ')))
+(DEFUND Mixed-1+ (X Y) ; two words
+  \"What a \\\" is.\"
+  (declare (xargs :guard (natp x)))
+  (declare (ignore y))
+  (BVXOR 16 x #xFf00))
+(defthm mixed-1+-of-0 (equal (mixed-1+ 0 0) #xff00))
+(verify-guards mixed-1+)
+";
+
+/// A block cipher of two halves, its rounds by recursion.
+const CIPHER_FILE: &[u8] = b"
+(defconst *delta* #x9e3779b9)
+(defun half (z s p q)
+  (bvxor 32 (bvplus 32 (bvshl 32 z 4) p)
+            (bvxor 32 (bvplus 32 z s) (bvplus 32 (bvshr 32 z 5) q))))
+(defun steps (left s y z key)
+  (if (zp left) (list y z)
+    (let* ((s (bvplus 32 s *delta*))
+           (y (bvplus 32 y (half z s (nth 0 key) (nth 1 key))))
+           (z (bvplus 32 z (half y s (nth 2 key) (nth 3 key)))))
+      (steps (- left 1) s y z key))))
+(defun encrypted (v key) (steps 32 0 (nth 0 v) (nth 1 v) key))
+";
+
+fn places(program: &Program, names: [&[u8]; 3]) -> [Option<usize>; 3] {
+    let [first, second, third] = names;
+    [
+        program.function(first).map(|f| f.0),
+        program.function(second).map(|f| f.0),
+        program.function(third).map(|f| f.0),
+    ]
+}
+
 #[test]
-fn functions_of_a_text(rt: HostRuntime) -> Result<(), Fail> {
-    let alloc = rt.alloc();
-    let program = read_spec(alloc, b"(defun F-1 (x Y)\n (bvxor 8 X y))")?;
-    assert_eq!(rt; program.function(b"f-1").map(|f| f.0), Some(0));
-    assert_eq!(rt; program.function(b"F-1").map(|f| f.0), Some(0));
-    assert_eq!(rt; program.function(b"f").map(|f| f.0), None);
-    let functions = program.functions.as_slice();
-    assert_eq!(rt; functions.len(), 1);
-    assert_eq!(rt; functions[0].name.as_slice(), b"f-1".as_slice());
-    assert_eq!(rt; functions[0].formals, 2);
-    let body = &functions[0].body;
-    assert_eq!(rt; body.at, 18);
-    let call = match &body.kind {
-        FormKind::Call(builtin, parts) => Some((*builtin, parts.as_slice().len())),
-        _ => None,
+fn acl2_file(rt: HostRuntime) -> Result<(), Fail> {
+    let program = read_spec(rt.alloc(), ACL2_FILE)?;
+    let names: [&[u8]; 3] = [b"mixed-1+", b"MIXED-1+", b"mixed"];
+    assert_eq!(rt; places(&program, names), [Some(0), Some(0), None]);
+    assert_eq!(rt; program.functions.as_slice().len(), 1);
+    assert_eq!(rt; program.functions.get(0).map(|f| f.formals), Some(2));
+    Ok(())
+}
+
+#[test]
+fn cipher_file(rt: HostRuntime) -> Result<(), Fail> {
+    let program = read_spec(rt.alloc(), CIPHER_FILE)?;
+    let names: [&[u8]; 3] = [b"half", b"steps", b"encrypted"];
+    assert_eq!(rt; places(&program, names), [Some(0), Some(1), Some(2)]);
+    assert_eq!(rt; program.constants.as_slice().len(), 1);
+    assert_eq!(rt; program.functions.get(1).map(|f| f.formals), Some(5));
+    Ok(())
+}
+
+/// Where a form stands, what it is, and how many parts it has.
+fn outline(form: &Form) -> (u32, &'static str, usize) {
+    let (kind, parts) = match &form.kind {
+        FormKind::Number(_) => ("number", 0),
+        FormKind::T => ("t", 0),
+        FormKind::Quoted(numbers) => ("quoted", numbers.as_slice().len()),
+        FormKind::Variable(_) => ("variable", 0),
+        FormKind::Constant(_) => ("constant", 0),
+        FormKind::If(parts) => ("if", parts.as_slice().len()),
+        FormKind::Let(parts) => ("let", parts.as_slice().len()),
+        FormKind::LetStar(parts) => ("let*", parts.as_slice().len()),
+        FormKind::Cond(parts) => ("cond", parts.as_slice().len()),
+        FormKind::And(parts) => ("and", parts.as_slice().len()),
+        FormKind::Or(parts) => ("or", parts.as_slice().len()),
+        FormKind::Builtin(_, parts) => ("builtin", parts.as_slice().len()),
+        FormKind::Call(_, parts) => ("call", parts.as_slice().len()),
     };
-    assert_eq!(rt; call, Some((Builtin::BvXor, 3)));
+    (form.at, kind, parts)
+}
+
+/// The forms within a form.
+fn parts(form: &Form) -> &[Form] {
+    match &form.kind {
+        FormKind::If(parts)
+        | FormKind::Let(parts)
+        | FormKind::LetStar(parts)
+        | FormKind::Cond(parts)
+        | FormKind::And(parts)
+        | FormKind::Or(parts)
+        | FormKind::Builtin(_, parts)
+        | FormKind::Call(_, parts) => parts.as_slice(),
+        _ => &[],
+    }
+}
+
+/// The body of the first function.
+fn first_body(program: &Program) -> Option<&Form> {
+    match program.functions.get(0) {
+        Some(function) => Some(&function.body),
+        None => None,
+    }
+}
+
+/// The forms within a form, if there is one.
+fn parts_of(form: Option<&Form>) -> &[Form] {
+    match form {
+        Some(form) => parts(form),
+        None => &[],
+    }
+}
+
+/// The place of the variable that a form is.
+fn place(form: Option<&Form>) -> Option<u32> {
+    match form {
+        Some(form) => match &form.kind {
+            FormKind::Variable(place) => Some(*place),
+            _ => None,
+        },
+        None => None,
+    }
+}
+
+/// The number that a form is.
+fn number(form: Option<&Form>) -> Option<i128> {
+    match form {
+        Some(form) => match &form.kind {
+            FormKind::Number(number) => Some(*number),
+            _ => None,
+        },
+        None => None,
+    }
+}
+
+#[test]
+fn kinds_of_forms(rt: HostRuntime) -> Result<(), Fail> {
+    let text =
+        b"(defun f (x y) (list x *k* t nil '(1 -2) (if x y 3) (let ((y x) (z y)) (declare) z) \
+(let* ((x 1)) x) (cond (x 1) (t 2)) (and) (or x y x) (+ x y 1) (f x y))) (defconst *k* 5)";
+    let program = read_spec(rt.alloc(), text.as_slice())?;
+    let body = first_body(&program);
+    let expected = [
+        (21, "variable", 0),
+        (23, "constant", 0),
+        (27, "t", 0),
+        (29, "quoted", 0),
+        (33, "quoted", 2),
+        (41, "if", 3),
+        (52, "let", 3),
+        (84, "let*", 2),
+        (101, "cond", 4),
+        (120, "and", 0),
+        (126, "or", 3),
+        (137, "builtin", 3),
+        (147, "call", 2),
+    ];
+    for (part, expected) in parts_of(body).iter().zip(expected) {
+        assert_eq!(rt; outline(part), expected);
+    }
+    assert_eq!(rt; parts_of(body).len(), 13);
     Ok(())
 }
 
 #[test]
 fn faults_at_their_offsets(rt: HostRuntime) -> Result<(), Fail> {
     let alloc = rt.alloc();
-    let cases: [(&[u8], SpecError); 9] = [
-        (b"", SpecError::BadForm { at: 0 }),
+    let cases: [(&[u8], SpecError); 107] = [
+        (b"(defun f (x) [x])", SpecError::BadToken { at: 13 }),
+        (b"(defun f (x) 1x)", SpecError::BadToken { at: 13 }),
+        (b"(defun f (x) -1+)", SpecError::BadToken { at: 13 }),
+        (b"(defun f (x) #x)", SpecError::BadToken { at: 13 }),
+        (b"(defun f (x) #b12)", SpecError::BadToken { at: 13 }),
+        (b"(defun f (x) #y1)", SpecError::BadToken { at: 13 }),
+        (b"(defun f (x) #X-)", SpecError::BadToken { at: 13 }),
+        (b"(defun f (x) 1.5)", SpecError::BadToken { at: 13 }),
+        (
+            b"(defun f () 170141183460469231731687303715884105728)",
+            SpecError::BadToken { at: 12 },
+        ),
+        (
+            b"(defun f () -170141183460469231731687303715884105729)",
+            SpecError::BadToken { at: 12 },
+        ),
+        (
+            b"(defun f () #x80000000000000000000000000000000)",
+            SpecError::BadToken { at: 12 },
+        ),
+        (b"(defun f () #", SpecError::BadToken { at: 12 }),
+        (b"(defun f () 1) #|#", SpecError::Unclosed { at: 15 }),
+        (b"(defun f () 1) #| #| |", SpecError::Unclosed { at: 15 }),
+        (
+            b"(defun f () #| a #| b |# 1) |#",
+            SpecError::BadToken { at: 28 },
+        ),
+        (b"(defun f () \"a\\\"", SpecError::Unclosed { at: 12 }),
+        (b") ]", SpecError::BadToken { at: 2 }),
         (b"(defun f (x) x", SpecError::Unclosed { at: 0 }),
-        (b"(defun f (x) (bvxor 8 x", SpecError::Unclosed { at: 0 }),
-        (b"(defun f (x) #)", SpecError::BadToken { at: 13 }),
+        (
+            b"(local a) (defun f (x) (bvxor 8 x",
+            SpecError::Unclosed { at: 10 },
+        ),
+        (b"(quote '(1", SpecError::Unclosed { at: 0 }),
+        (b"(defun f () 1)) (", SpecError::BadForm { at: 14 }),
+        (b"x", SpecError::BadForm { at: 0 }),
+        (b"7", SpecError::BadForm { at: 0 }),
+        (b"\"text\"", SpecError::BadForm { at: 0 }),
+        (b"'7", SpecError::BadForm { at: 0 }),
+        (b"()", SpecError::BadForm { at: 0 }),
+        (b"(7)", SpecError::BadForm { at: 0 }),
+        (b"(defmacro f (x) x)", SpecError::BadForm { at: 0 }),
+        (b"(defun)", SpecError::BadForm { at: 0 }),
+        (b"(defun f)", SpecError::BadForm { at: 0 }),
+        (b"(defun f (x))", SpecError::BadForm { at: 0 }),
+        (b"(defun 7 (x) x)", SpecError::BadForm { at: 0 }),
+        (b"(defun f x x)", SpecError::BadForm { at: 0 }),
+        (b"(defun f nil 1)", SpecError::BadForm { at: 0 }),
+        (b"(defun f (7) 1)", SpecError::BadForm { at: 0 }),
+        (b"(defun f (t) 1)", SpecError::BadForm { at: 0 }),
+        (b"(defun f (x NIL) 1)", SpecError::BadForm { at: 0 }),
+        (b"(defun f (x) 7 x)", SpecError::BadForm { at: 0 }),
+        (b"(defun f () \"x\")", SpecError::BadForm { at: 12 }),
+        (b"(defun f () \"a\" \"b\" 1)", SpecError::BadForm { at: 16 }),
+        (
+            b"(defun f () (declare) \"b\" 1)",
+            SpecError::BadForm { at: 22 },
+        ),
+        (
+            b"(defun f () \"a\" \"b\" 7 1)",
+            SpecError::BadForm { at: 0 },
+        ),
+        (b"(defconst f 1)", SpecError::BadForm { at: 0 }),
+        (b"(defconst ** 1)", SpecError::BadForm { at: 0 }),
+        (b"(defconst *a*)", SpecError::BadForm { at: 0 }),
+        (b"(defconst *a* 1 2)", SpecError::BadForm { at: 0 }),
+        (b"(defun f () ())", SpecError::BadForm { at: 12 }),
+        (b"(defun f () (7 8))", SpecError::BadForm { at: 12 }),
+        (b"(defun f () ((f) 8))", SpecError::BadForm { at: 12 }),
+        (b"(defun f () ')", SpecError::BadForm { at: 12 }),
+        (b"(defun f () (not '))", SpecError::BadForm { at: 17 }),
+        (b"(defun f () (not ''1))", SpecError::BadForm { at: 17 }),
+        (b"(defun f () 'x)", SpecError::BadForm { at: 12 }),
+        (b"(defun f () '(1 (2)))", SpecError::BadForm { at: 12 }),
+        (b"(defun f () '(1 nil))", SpecError::BadForm { at: 12 }),
+        (b"(defun f () (quote))", SpecError::BadForm { at: 12 }),
+        (b"(defun f () (quote 1 2))", SpecError::BadForm { at: 12 }),
+        (b"(defun f (x) (if x x))", SpecError::BadForm { at: 13 }),
+        (b"(defun f (x) (if x x x x))", SpecError::BadForm { at: 13 }),
+        (b"(defun f (x) (cond (x)))", SpecError::BadForm { at: 13 }),
+        (b"(defun f (x) (cond x))", SpecError::BadForm { at: 13 }),
+        (
+            b"(defun f (x) (and x (if x)))",
+            SpecError::BadForm { at: 20 },
+        ),
+        (b"(defun f (x) (let))", SpecError::BadForm { at: 13 }),
+        (
+            b"(defun f (x) (let ((y x))))",
+            SpecError::BadForm { at: 13 },
+        ),
+        (b"(defun f (x) (let nil x))", SpecError::BadForm { at: 13 }),
+        (
+            b"(defun f (x) (let ((y)) x))",
+            SpecError::BadForm { at: 13 },
+        ),
+        (b"(defun f (x) (let (y) x))", SpecError::BadForm { at: 13 }),
+        (
+            b"(defun f (x) (let ((t 1)) x))",
+            SpecError::BadForm { at: 13 },
+        ),
+        (
+            b"(defun f (x) (let* ((7 1)) x))",
+            SpecError::BadForm { at: 13 },
+        ),
+        (
+            b"(defun f (x) (let ((y 1)) x x))",
+            SpecError::BadForm { at: 13 },
+        ),
+        (
+            b"(defun f (x) (let ((y 1)) \"a\" x))",
+            SpecError::BadForm { at: 26 },
+        ),
+        (
+            b"(defun f (x) (let ((y (if))) \"a\" x))",
+            SpecError::BadForm { at: 22 },
+        ),
+        (b"(defun f (x) (bvxor 8 x))", SpecError::BadForm { at: 13 }),
+        (
+            b"(defun f (x) (bvxor 8 x x x))",
+            SpecError::BadForm { at: 13 },
+        ),
+        (b"(defun f (x) (+ x))", SpecError::BadForm { at: 13 }),
+        (b"(defun f (x) (-))", SpecError::BadForm { at: 13 }),
+        (b"(defun f (x) (- x x x))", SpecError::BadForm { at: 13 }),
+        (b"(defun f (x) (list))", SpecError::BadForm { at: 13 }),
+        (b"(defun f (x) (append x))", SpecError::BadForm { at: 13 }),
+        (
+            b"(defun f (x) (list x \"a\"))",
+            SpecError::BadForm { at: 21 },
+        ),
+        (
+            b"(defun f (y) x) (defun g () (if))",
+            SpecError::BadForm { at: 28 },
+        ),
         (
             b"(defun f (x) (bvxor 8 x y))",
             SpecError::UnboundName { at: 24 },
         ),
-        (b"(defun f (x) (bvxor 8 x))", SpecError::BadForm { at: 13 }),
+        (b"(defun f (x) (g x))", SpecError::UnboundName { at: 13 }),
+        (
+            b"(defun f (x) (declare x))",
+            SpecError::UnboundName { at: 13 },
+        ),
+        (
+            b"(defun f (x) (defun x))",
+            SpecError::UnboundName { at: 13 },
+        ),
+        (b"(defun f (x) (t))", SpecError::UnboundName { at: 13 }),
+        (b"(defun f (x) (x))", SpecError::UnboundName { at: 13 }),
+        (
+            b"(defun f (x) (list x :x))",
+            SpecError::UnboundName { at: 21 },
+        ),
+        (b"(defconst *a* x)", SpecError::UnboundName { at: 14 }),
+        (
+            b"(defconst *a* 1) (defun f () (*a*))",
+            SpecError::UnboundName { at: 29 },
+        ),
+        (
+            b"(defun *a* () 1) (defun f () *a*)",
+            SpecError::UnboundName { at: 29 },
+        ),
+        (
+            b"(defun f (x) (list (let ((y x)) y) y))",
+            SpecError::UnboundName { at: 35 },
+        ),
+        (
+            b"(defun f (x) (let ((y x) (z y)) z))",
+            SpecError::UnboundName { at: 28 },
+        ),
+        (
+            b"(defun f (x) (let* ((z y) (y x)) z))",
+            SpecError::UnboundName { at: 23 },
+        ),
         (b"(defun f (x x) x)", SpecError::Duplicate { at: 0 }),
+        (b"(defun f (x X) x)", SpecError::Duplicate { at: 0 }),
+        (
+            b"(defun f (x) x) (defun F (y) y)",
+            SpecError::Duplicate { at: 16 },
+        ),
+        (
+            b"(defconst *a* 1) (defun *a* (x) x)",
+            SpecError::Duplicate { at: 17 },
+        ),
         (b"(defun bvxor (x) x)", SpecError::Duplicate { at: 0 }),
-        (b"(defun f (x))", SpecError::BadForm { at: 0 }),
+        (b"(defun Declare (x) x)", SpecError::Duplicate { at: 0 }),
+        (b"(defund nil (x) x)", SpecError::Duplicate { at: 0 }),
+        (b"(defun let* (x) x)", SpecError::Duplicate { at: 0 }),
+        (b"(defun in-theory (x) x)", SpecError::Duplicate { at: 0 }),
+        (
+            b"(defun f (x) (let ((y x) (y x)) y))",
+            SpecError::Duplicate { at: 13 },
+        ),
+        (b"(defun f (x) (f))", SpecError::BadForm { at: 13 }),
+        (
+            b"(defun f (x) (g x x)) (defun g (x) x) (defun g (x y) x)",
+            SpecError::BadForm { at: 13 },
+        ),
+        (b"(defun t (x x) (g))", SpecError::Duplicate { at: 0 }),
     ];
     for (text, fault) in cases {
-        assert_eq!(rt; read_spec(alloc, text).err(), Some(fault));
+        let name = String::from_utf8_lossy(alloc, text)?;
+        assert_eq!(rt; fault_of(alloc, text), Some(fault), "{name}");
+    }
+    Ok(())
+}
+
+#[test]
+fn numbers_of_all_bases(rt: HostRuntime) -> Result<(), Fail> {
+    let alloc = rt.alloc();
+    let cases: [(&[u8], i128); 10] = [
+        (b"(defun f () 007)", 7),
+        (b"(defun f () -0)", 0),
+        (b"(defun f () +12)", 12),
+        (b"(defun f () #xFf)", 255),
+        (b"(defun f () #B-101)", -5),
+        (b"(defun f () #o+17)", 15),
+        (b"(defun f () #X-a0)", -160),
+        (
+            b"(defun f () 170141183460469231731687303715884105727)",
+            i128::MAX,
+        ),
+        (
+            b"(defun f () -170141183460469231731687303715884105728)",
+            i128::MIN,
+        ),
+        (
+            b"(defun f () #x-80000000000000000000000000000000)",
+            i128::MIN,
+        ),
+    ];
+    for (text, expected) in cases {
+        let program = read_spec(alloc, text)?;
+        assert_eq!(rt; number(first_body(&program)), Some(expected));
+    }
+    Ok(())
+}
+
+#[test]
+fn last_bindings_count(rt: HostRuntime) -> Result<(), Fail> {
+    let text = b"(defun f (x *k* y) (let ((y x) (z y)) (let* ((z z) (x z)) (list x y z *k*))))";
+    let program = read_spec(rt.alloc(), text.as_slice())?;
+    let outer = parts_of(first_body(&program));
+    let inner = parts_of(outer.get(2));
+    let list = parts_of(inner.get(2));
+    let cases = [
+        (outer.get(1), 2),
+        (inner.get(0), 4),
+        (inner.get(1), 5),
+        (list.get(0), 6),
+        (list.get(1), 3),
+        (list.get(2), 5),
+        (list.get(3), 1),
+    ];
+    for (form, expected) in cases {
+        assert_eq!(rt; place(form), Some(expected));
+    }
+    Ok(())
+}
+
+/// A text of one piece, repeated.
+fn repeated(
+    alloc: Global,
+    before: &[u8],
+    piece: &[u8],
+    times: usize,
+    after: &[u8],
+) -> Result<Vec<u8>, Fail> {
+    let mut text = Vec::from_slice(alloc, before)?;
+    for _ in 0..times {
+        text.extend_from_slice(piece)?;
+    }
+    text.extend_from_slice(after)?;
+    Ok(text)
+}
+
+/// The fault of a text of at most 1 MB; want of memory stands for a longer one.
+fn fault_of(alloc: Global, text: &[u8]) -> Option<SpecError> {
+    if text.len() > 1_048_576 {
+        return Some(SpecError::Memory);
+    }
+    read_spec(alloc, text).err()
+}
+
+#[test]
+fn depth_of_parentheses(rt: HostRuntime) -> Result<(), Fail> {
+    let alloc = rt.alloc();
+    let cases: [(usize, usize, Option<SpecError>); 3] = [
+        (499, 500, None),
+        (500, 501, Some(SpecError::TooDeep { at: 2507 })),
+        (499, 501, Some(SpecError::BadForm { at: 3008 })),
+    ];
+    for (opened, closed, fault) in cases {
+        let mut text = repeated(alloc, b"(defun f () ", b"(not ", opened, b"1")?;
+        let end = repeated(alloc, b"", b")", closed, b"")?;
+        text.extend_from_slice(&end)?;
+        assert_eq!(rt; fault_of(alloc, &text), fault);
+    }
+    Ok(())
+}
+
+#[test]
+fn large_texts(rt: HostRuntime) -> Result<(), Fail> {
+    let alloc = rt.alloc();
+    let mega = 1_048_576;
+    let cases: [(&[u8], &[u8], usize, &[u8], Option<SpecError>); 7] = [
+        (b"", b"(", mega, b"", Some(SpecError::TooDeep { at: 500 })),
+        (b"", b"a", mega, b"", Some(SpecError::BadForm { at: 0 })),
+        (b"", b"'", mega, b"", Some(SpecError::BadForm { at: 0 })),
+        (
+            b"",
+            b"#| ",
+            mega / 3,
+            b"",
+            Some(SpecError::Unclosed { at: 0 }),
+        ),
+        (b"(defun f () '(", b"1 ", 500_000, b"))", None),
+        (b"(defun f () (list ", b"1 ", 500_000, b"))", None),
+        (
+            b"(defun f () 1)",
+            b"(defun f () 1)",
+            70_000,
+            b"",
+            Some(SpecError::Duplicate { at: 14 }),
+        ),
+    ];
+    for (before, piece, times, after, fault) in cases {
+        let text = repeated(alloc, before, piece, times, after)?;
+        assert_eq!(rt; fault_of(alloc, &text), fault);
     }
     Ok(())
 }

@@ -1,11 +1,11 @@
-ghost use Rattle.std.specs.Prelude.{◌≡◌, ℕ, ◌+◌, ◌-◌, ◌≤◌, ◌<◌, ◌^◌, [], length, IsTrue, OnOk, IfSome, option_map, pos, vec_len};
-ghost use Rattle.spec_reader.specs.Reading.{Gives, with_front};
-ghost use Rattle.spec_reader.specs.Tokens.{is_symbol, value_of, with_digit, word_token, mark, step, scan, tokens_of};
+ghost use Rattle.std.specs.Prelude.{◌≡◌, not, ◌&&◌, ◌==◌, false, ◌≤◌, ◌<◌, [], ◌∷◌, length, IfOk, IfSome};
+ghost use Rattle.spec_reader.specs.Reading.{Gives};
+ghost use Rattle.spec_reader.specs.Tokens.{is_white, is_symbol, line_length, symbol_length, string_length, comment_length, is_step, token_of, gives, adds, word_in, hash_lexeme, comment_lexeme, string_lexeme, symbol_lexeme, lexeme, here, tokens_of};
 
 use crate::error::SpecError;
+use crate::number::{begins_like_number, number};
 use sqlite_items::Items;
-use std::alloc::Global;
-use std::mem;
+use std::alloc::{AllocError, Global};
 
 /// A token of a specification.
 #[derive(Debug, Drop)]
@@ -14,7 +14,11 @@ pub enum Token {
     Open,
     /// `)`.
     Close,
-    /// A number from 0 to 2^127 - 1 in decimal digits.
+    /// `'`.
+    Apostrophe,
+    /// A string; what it says isn't read.
+    Text,
+    /// A number from -2^127 to 2^127 - 1.
     Number(i128),
     /// A symbol, its letters in lower case.
     Word(Items<u8>),
@@ -27,6 +31,95 @@ pub struct Located {
     pub token: Token,
 }
 
+/// The tokens of the bytes.
+pub fn tokens(alloc: Global, bytes: &[u8]) -> Result<Vec<Located>, SpecError>
+    requires { length bytes.now ≤ 1048576 }
+    ensures { Gives (λ v. v.items) result (tokens_of bytes.now) }
+{
+    let mut tokens = Vec::new(alloc);
+    let mut passed = 0;
+    for at in 0..bytes.len() {
+        passed = read(alloc, &mut tokens, passed, at as u32, bytes.split_at(at).1)?;
+    }
+    Ok(tokens)
+}
+
+/// Reads what begins at the first of some bytes, unless that byte belongs to what began before it. Gives how many
+/// bytes more belong to the same.
+fn read(
+    alloc: Global,
+    tokens: &mut Vec<Located>,
+    passed: usize,
+    at: u32,
+    bytes: &[u8],
+) -> Result<usize, SpecError>
+    ensures { Gives (λ more. record { more = more; tokens = tokens.new.items }) result (adds tokens.old.items (here passed at bytes.now)) }
+{
+    if passed > 0 {
+        return Ok(passed - 1);
+    }
+    lexeme(alloc, tokens, at, bytes)
+}
+
+/// Reads what begins at the first of some bytes.
+fn lexeme(
+    alloc: Global,
+    tokens: &mut Vec<Located>,
+    at: u32,
+    bytes: &[u8],
+) -> Result<usize, SpecError>
+    ensures { Gives (λ more. record { more = more; tokens = tokens.new.items }) result (adds tokens.old.items (lexeme at bytes.now)) }
+{
+    let Some((first, rest)) = bytes.split_first() else {
+        return Ok(0);
+    };
+    if is_white(*first) {
+        return Ok(0);
+    }
+    match *first {
+        b'(' => add(tokens, at, Token::Open, 0),
+        b')' => add(tokens, at, Token::Close, 0),
+        b'\'' => add(tokens, at, Token::Apostrophe, 0),
+        b';' => Ok(line_length(rest)),
+        b'"' => string(tokens, at, rest),
+        b'#' => hash(alloc, tokens, at, bytes, rest),
+        byte => symbol(alloc, tokens, at, byte, bytes, rest),
+    }
+}
+
+/// Reads a word, where a byte may begin one.
+fn symbol(
+    alloc: Global,
+    tokens: &mut Vec<Located>,
+    at: u32,
+    first: u8,
+    bytes: &[u8],
+    rest: &[u8],
+) -> Result<usize, SpecError>
+    requires { bytes.now ≡ first ∷ rest.now }
+    ensures { Gives (λ more. record { more = more; tokens = tokens.new.items }) result (adds tokens.old.items (symbol_lexeme at first rest.now)) }
+{
+    if !is_symbol(first) {
+        return Err(SpecError::BadToken { at });
+    }
+    word(alloc, tokens, at, symbol_length(rest), bytes)
+}
+
+/// Adds a token, to which so many bytes belong behind the first.
+fn add(tokens: &mut Vec<Located>, at: u32, token: Token, more: usize) -> Result<usize, SpecError>
+    ensures { Gives (λ more. record { more = more; tokens = tokens.new.items }) result (adds tokens.old.items (gives at token more)) }
+{
+    tokens.push(Located { at, token })?;
+    Ok(more)
+}
+
+/// Whether a byte is white space.
+fn is_white(byte: u8) -> bool
+    ensures { result ≡ is_white byte }
+{
+    matches!(byte, b' ' | b'\t' | b'\n' | b'\r')
+}
+
 /// Whether a byte may stand in a symbol or a number.
 fn is_symbol(byte: u8) -> bool
     ensures { result ≡ is_symbol byte }
@@ -34,117 +127,146 @@ fn is_symbol(byte: u8) -> bool
     byte.is_ascii_alphanumeric() || b"+-*/<>=!?$%&_^~@.:".contains(&byte)
 }
 
-/// A text that was read up to an offset: the word that hasn't ended, and the tokens before it.
-#[derive(Drop)]
-pub struct Scanner {
-    at: u32,
-    word: Vec<u8>,
-    tokens: Vec<Located>,
-}
-
-/// The tokens of the bytes.
-pub fn tokens(alloc: Global, bytes: &[u8]) -> Result<Vec<Located>, SpecError>
-    requires { length bytes.now ≤ 1048576 }
-    ensures { Gives (λ v. v.items) result (tokens_of bytes.now) }
+/// How many bytes stand before the end of the line.
+fn line_length(bytes: &[u8]) -> usize
+    ensures { result ≡ line_length bytes.now }
 {
-    let mut scanner = Scanner {
-        at: 0,
-        word: Vec::new(alloc),
-        tokens: Vec::new(alloc),
-    };
-    for byte in bytes {
-        read(alloc, &mut scanner, *byte)?;
-    }
-    let Scanner {
-        at,
-        word,
-        mut tokens,
-    } = scanner;
-    end_word(&mut tokens, at, word)?;
-    Ok(tokens)
-}
-
-/// Reads one byte more.
-#[tactic(auto, unfolding(crate::specs::Tokens::step))]
-fn read(alloc: Global, scanner: &mut Scanner, byte: u8) -> Result<(), SpecError>
-    requires room { scanner.old.at < 1048576 }
-    requires word { vec_len scanner.old.word ≤ scanner.old.at }
-    ensures read { Gives (λ _. scan scanner.new) result (step (scan scanner.old) byte) }
-    ensures word { OnOk result (vec_len scanner.new.word ≤ scanner.new.at) }
-    ensures at { OnOk result (scanner.new.at ≡ scanner.old.at + 1) }
-{
-    if is_symbol(byte) {
-        scanner.word.push(byte.to_ascii_lowercase())?;
-    } else {
-        let word = mem::replace(&mut scanner.word, Vec::new(alloc));
-        end_word(&mut scanner.tokens, scanner.at, word)?;
-        put_mark(&mut scanner.tokens, scanner.at, byte)?;
-    }
-    scanner.at += 1;
-    Ok(())
-}
-
-/// Adds the token of a word that ends before an offset, if there is one.
-#[tactic(auto, unfolding(crate::specs::Tokens::word_token))]
-fn end_word(tokens: &mut Vec<Located>, end: u32, word: Vec<u8>) -> Result<(), SpecError>
-    requires { vec_len word ≤ end }
-    ensures { Gives (λ _. tokens.new.items) result (with_front tokens.old.items (word_token (end - length word.items) word.items)) }
-{
-    let at = end - word.len() as u32;
-    let Some(first) = word.first() else {
-        return Ok(());
-    };
-    let token = if first.is_ascii_digit() {
-        Token::Number(number(&word).ok_or(SpecError::BadToken { at })?)
-    } else {
-        Token::Word(Items::from_vec(word))
-    };
-    tokens.push(Located { at, token })?;
-    Ok(())
-}
-
-/// The number that decimal digits spell, if it is below 2^127.
-fn number(digits: &[u8]) -> Option<i128>
-    ensures { result ≡ option_map pos (value_of digits.now) }
-{
-    let value = value(digits)?;
-    Some(value as i128)
-}
-
-fn value(digits: &[u8]) -> Option<u128>
-    ensures value { result ≡ value_of digits.now }
-    ensures below { IfSome result (λ n. n < 2 ^ 127) }
-{
-    let mut value = 0u128;
-    for digit in digits {
-        if !digit.is_ascii_digit() {
-            return None;
+    for (at, byte) in bytes.iter().enumerate() {
+        if *byte == b'\n' {
+            return at;
         }
-        value = with_digit(value, *digit - b'0')?;
     }
-    Some(value)
+    bytes.len()
 }
 
-/// A number with one decimal digit more, if it stays below 2^127.
-fn with_digit(number: u128, digit: u8) -> Option<u128>
-    ensures value { result ≡ with_digit number digit }
-    ensures below { IfSome result (λ n. n < 2 ^ 127) }
+/// How many bytes go on with a symbol.
+fn symbol_length(bytes: &[u8]) -> usize
+    ensures value { result ≡ symbol_length bytes.now }
+    ensures within { result ≤ length bytes.now }
 {
-    let more = number.checked_mul(10)?.checked_add(u128::from(digit))?;
-    if more < 1 << 127 { Some(more) } else { None }
+    for (at, byte) in bytes.iter().enumerate() {
+        if !is_symbol(*byte) {
+            return at;
+        }
+    }
+    bytes.len()
 }
 
-/// Adds the token of a byte that stands in no word.
-#[tactic(auto, unfolding(crate::specs::Tokens::mark))]
-fn put_mark(tokens: &mut Vec<Located>, at: u32, byte: u8) -> Result<(), SpecError>
-    ensures { Gives (λ _. tokens.new.items) result (with_front tokens.old.items (mark at byte)) }
+/// Reads a string behind its opening quote.
+fn string(tokens: &mut Vec<Located>, at: u32, bytes: &[u8]) -> Result<usize, SpecError>
+    ensures { Gives (λ more. record { more = more; tokens = tokens.new.items }) result (adds tokens.old.items (string_lexeme at (string_length false bytes.now))) }
 {
-    let token = match byte {
-        b' ' | b'\t' | b'\n' | b'\r' => return Ok(()),
-        b'(' => Token::Open,
-        b')' => Token::Close,
-        _ => return Err(SpecError::BadToken { at }),
+    match string_length(bytes) {
+        Some(more) => add(tokens, at, Token::Text, more),
+        None => Err(SpecError::Unclosed { at }),
+    }
+}
+
+/// Whether a byte of a string closes it.
+fn closes(taken: bool, byte: u8) -> bool
+    ensures { result ≡ (not taken && byte == 34) }
+{
+    !taken && byte == b'"'
+}
+
+/// Whether a byte of a string takes the next one.
+fn takes(taken: bool, byte: u8) -> bool
+    ensures { result ≡ (not taken && byte == 92) }
+{
+    !taken && byte == b'\\'
+}
+
+/// How many bytes a string takes up to its closing quote, if it has one.
+fn string_length(bytes: &[u8]) -> Option<usize>
+    ensures { result ≡ string_length false bytes.now }
+{
+    let mut taken = false;
+    for (at, byte) in bytes.iter().enumerate() {
+        if closes(taken, *byte) {
+            return Some(at + 1);
+        }
+        taken = takes(taken, *byte);
+    }
+    None
+}
+
+/// Reads a comment or a number behind a `#`.
+fn hash(
+    alloc: Global,
+    tokens: &mut Vec<Located>,
+    at: u32,
+    bytes: &[u8],
+    rest: &[u8],
+) -> Result<usize, SpecError>
+    requires { bytes.now ≡ 35 ∷ rest.now }
+    ensures { Gives (λ more. record { more = more; tokens = tokens.new.items }) result (adds tokens.old.items (hash_lexeme at 35 rest.now)) }
+{
+    let Some((first, behind)) = rest.split_first() else {
+        return Err(SpecError::BadToken { at });
     };
-    tokens.push(Located { at, token })?;
-    Ok(())
+    if *first == b'|' {
+        return comment(at, behind);
+    }
+    word(alloc, tokens, at, symbol_length(rest), bytes)
+}
+
+/// Passes a comment behind its opening `#|`.
+fn comment(at: u32, bytes: &[u8]) -> Result<usize, SpecError>
+    ensures { Gives (λ more. record { more = more; tokens = [] }) result (comment_lexeme at (comment_length false bytes.now)) }
+{
+    match comment_length(bytes) {
+        Some(more) => Ok(more + 1),
+        None => Err(SpecError::Unclosed { at }),
+    }
+}
+
+/// How many bytes a comment takes up to its closing `|#`, if it has one.
+fn comment_length(bytes: &[u8]) -> Option<usize>
+    ensures value { result ≡ comment_length false bytes.now }
+    ensures within { IfSome result (λ more. more ≤ length bytes.now) }
+{
+    let mut bar = false;
+    for (at, byte) in bytes.iter().enumerate() {
+        if bar && *byte == b'#' {
+            return Some(at + 1);
+        }
+        bar = *byte == b'|';
+    }
+    None
+}
+
+/// Reads the word that some bytes begin with; so many of them belong to it behind the first.
+fn word(
+    alloc: Global,
+    tokens: &mut Vec<Located>,
+    at: u32,
+    more: usize,
+    bytes: &[u8],
+) -> Result<usize, SpecError>
+    requires { more < length bytes.now }
+    ensures { Gives (λ more. record { more = more; tokens = tokens.new.items }) result (adds tokens.old.items (word_in at more bytes.now)) }
+{
+    let (word, _) = bytes.split_at(more + 1);
+    match token_of(alloc, word)? {
+        Some(token) => add(tokens, at, token, more),
+        None => Err(SpecError::BadToken { at }),
+    }
+}
+
+/// The token of a word: a number where it begins like one, and else a symbol.
+fn token_of(alloc: Global, word: &[u8]) -> Result<Option<Token>, AllocError>
+    ensures { IfOk result (λ token. token ≡ token_of word.now) }
+{
+    if begins_like_number(word) && !is_step(word) {
+        return Ok(number(word).map(Token::Number));
+    }
+    let name = word.to_ascii_lowercase(alloc)?;
+    Ok(Some(Token::Word(Items::from_vec(name))))
+}
+
+/// Whether a word is one of the symbols that begin with a digit.
+fn is_step(word: &[u8]) -> bool
+    ensures { result ≡ is_step word.now }
+{
+    word == b"1+".as_slice() || word == b"1-".as_slice()
 }

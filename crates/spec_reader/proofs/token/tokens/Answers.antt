@@ -1,30 +1,14 @@
-use Rattle.std.proofs.Common.{get_or, arith}
 use Rattle.std.proofs.lemmas.Result.{err_from_is_err_and}
-use Rattle.spec_reader.proofs.Steps.{goes_on, fails, ends, byte_is}
-use Rattle.spec_reader.specs.Tokens.{step, finish}
+use Rattle.spec_reader.proofs.Texts.{goes_on, fails, ends}
 use Rattle.spec_reader.proofs.token.tokens.Goals as goal
 
-pub loop-byte-preserved : goal.loop-byte-preserved
-loop-byte-preserved c =
-    let i = c.loop-byte.byte-index in
-    let bytes = c.args.bytes.now in
-    record {
-      at = omega (arith, c.in_ok-read.ensures.at, c.loop-byte.invariant.at);
-      word = c.in_ok-read.ensures.word;
-      so_far = goes_on step _ _ bytes i (get_or bytes i 0) _ c.loop-byte-test.true (byte_is bytes i c.loop-byte-test.true) c.in_ok-read.ensures.read c.loop-byte.invariant.so_far;
-    }
+pub loop-at-preserved : goal.loop-at-preserved
+loop-at-preserved c = goes_on c.loop-at.passed c.loop-at.at c.args.bytes.now _ c.loop-at.tokens.items _ _ c.loop-at-test.true c.split_at.ensures.back c.in_ok-passed.ensures c.loop-at.invariant
 
 pub returns : goal.returns
-returns c = rw (ends step _ _ _ _ c.loop-byte-test.false c.loop-byte.invariant.so_far) c.in_ok-end_word.ensures
+returns c = ends c.loop-at.passed c.loop-at.at c.args.bytes.now c.loop-at.tokens.items _ c.loop-at-test.false c.loop-at.invariant
 
-pub returns-in_err-end_word : goal.returns-in_err-end_word
-returns-in_err-end_word c =
-    let p = err_from_is_err_and c.from_residual-in_err-end_word.result c.from_residual-in_err-end_word.ensures.1 in
-    rw (p.1, p.2, ends step _ _ _ _ c.loop-byte-test.false c.loop-byte.invariant.so_far) c.in_err-end_word.ensures
-
-pub returns-in_err-read : goal.returns-in_err-read
-returns-in_err-read c =
+pub returns-in_err-passed : goal.returns-in_err-passed
+returns-in_err-passed c =
     let p = err_from_is_err_and c.from_residual.result c.from_residual.ensures.1 in
-    let i = c.loop-byte.byte-index in
-    let bytes = c.args.bytes.now in
-    rw (p.1, p.2) (fails step _ bytes i (get_or bytes i 0) _ finish c.in_err-read.field-0.0 c.loop-byte-test.true (byte_is bytes i c.loop-byte-test.true) c.in_err-read.ensures.read c.loop-byte.invariant.so_far)
+    rw (p.1, p.2) (fails c.loop-at.passed c.loop-at.at c.args.bytes.now _ c.loop-at.tokens.items c.in_err-passed.field-0.0 _ c.loop-at-test.true c.split_at.ensures.back c.in_err-passed.ensures c.loop-at.invariant)

@@ -1,0 +1,6 @@
+use Rattle.std.proofs.Common.{◌≡◌, ◌++◌, drop, map, option_map}
+use Rattle.spec_reader.specs.Expressions.{reading, all_of}
+use Rattle.spec_reader.proofs.parts.names_in.Given as goal
+
+abbrev pub invariant-loop-part : goal.invariant-loop-part
+invariant-loop-part l = option_map (λ more. l.names ++ more) (all_of (map (λ part. part.name) (map reading (drop l.part-index l.parts)))) ≡ all_of (map (λ part. part.name) (map reading l.parts))

@@ -1,0 +1,35 @@
+use Rattle.std.proofs.Common.{◌≡◌, ◌+◌, ◌*◌, max, length, take, drop, map}
+use Rattle.spec_reader.specs.Reading.{with_front}
+use Rattle.spec_reader.specs.Forms.{meaning_in, depth, depth_of_all, forms, star_parts, resolve}
+use Rattle.spec_reader.proofs.resolve.+resolve.Given as goal
+
+abbrev pub invariant-forms-loop-part : goal.invariant-forms-loop-part
+invariant-forms-loop-part l = record {
+  so_far : with_front l.out (forms (map resolve (drop l.part-index l.parts)) (meaning_in l.names) l.initial.scope.items) ≡ forms (map resolve l.parts) (meaning_in l.names) l.initial.scope.items;
+  kept : l.scope.items ≡ l.initial.scope.items;
+}
+
+abbrev pub invariant-star_parts-loop-at : goal.invariant-star_parts-loop-at
+invariant-star_parts-loop-at l = record {
+  so_far : with_front l.out (star_parts (drop l.at l.bound) (map resolve (drop l.at l.values)) (resolve l.body) (meaning_in l.names) l.scope.items) ≡ star_parts l.bound (map resolve l.values) (resolve l.body) (meaning_in l.names) l.initial.scope.items;
+  kept : take l.depth l.scope.items ≡ l.initial.scope.items;
+  depth : l.depth ≡ length l.initial.scope.items;
+}
+
+-- The measure is the depth of the expressions; among functions on expressions of one depth a caller ranks above
+-- what it calls.
+
+abbrev pub decreases-resolve : goal.decreases-resolve
+decreases-resolve l = 4 * depth l.expression.now
+
+abbrev pub decreases-forms : goal.decreases-forms
+decreases-forms l = 4 * depth_of_all l.parts.now + 1
+
+abbrev pub decreases-call_form : goal.decreases-call_form
+decreases-call_form l = 4 * depth_of_all l.parts.now + 2
+
+abbrev pub decreases-let_parts : goal.decreases-let_parts
+decreases-let_parts l = 4 * max (depth_of_all l.values.now) (depth l.body.now) + 2
+
+abbrev pub decreases-star_parts : goal.decreases-star_parts
+decreases-star_parts l = 4 * max (depth_of_all l.values.now) (depth l.body.now) + 2

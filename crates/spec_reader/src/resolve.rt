@@ -1,0 +1,285 @@
+ghost use Rattle.std.specs.Prelude.{◌≡◌, ◌-◌, ◌^◌, [], ◌++◌, length, map, min, take, drop, Ok, IfOk, OnOk};
+ghost use Rattle.spec_reader.specs.Reading.{Gives};
+ghost use Rattle.spec_reader.specs.Forms.{meaning_in, place, count, literal_form, special_kind, form, name_form, constant_form, with_kind, forms, let_parts, star_parts, call_form, resolve};
+
+use crate::error::SpecError;
+use crate::expression::{Expression, Literal, Special};
+use crate::form::{Form, FormKind};
+use crate::meaning::{Meaning, Names};
+use crate::names::are_distinct;
+use crate::program::{ConstId, FunId};
+use sqlite_items::Items;
+use std::alloc::{AllocError, Global};
+
+/// A count of things of which a text has no room for 2^32.
+pub fn count(number: usize) -> u32
+    ensures { result ≡ count number }
+{
+    number.min(u32::MAX as usize) as u32
+}
+
+/// The place of a name's last binding among the variables.
+fn place(scope: &[Items<u8>], name: &[u8]) -> Option<usize>
+    ensures { result ≡ place scope.now name.now }
+{
+    let mut last = None;
+    for (at, first) in scope.iter().enumerate() {
+        if first.as_slice() == name {
+            last = Some(at);
+        }
+    }
+    last
+}
+
+/// The form that an expression is among the names of the text and the variables in scope.
+#[cycle(resolve)]
+pub fn resolve(
+    alloc: Global,
+    names: &Names<'_>,
+    scope: &mut Vec<Items<u8>>,
+    expression: &Expression,
+) -> Result<Form, SpecError>
+    ensures form { Gives (λ f. f) result (resolve expression.now (meaning_in names.now) scope.old.items) }
+    ensures kept { OnOk result (scope.new.items ≡ scope.old.items) }
+{
+    match expression {
+        Expression::Literal(at, literal) => Ok(literal_form(alloc, *at, literal)?),
+        Expression::Name(at, name) => {
+            let place = place(scope.as_slice(), name.as_slice());
+            name_form(*at, place, names.meaning_of(name.as_slice()))
+        }
+        Expression::Special(at, special, parts) => {
+            let parts = forms(alloc, names, scope, parts.as_slice())?;
+            Ok(special_form(*at, *special, parts))
+        }
+        Expression::Let(at, bound, values, body) => {
+            if !are_distinct(alloc, bound.as_slice())? {
+                return Err(SpecError::Duplicate { at: *at });
+            }
+            let parts = let_parts(
+                alloc,
+                names,
+                scope,
+                bound.as_slice(),
+                values.as_slice(),
+                body.get(),
+            )?;
+            Ok(Form {
+                at: *at,
+                kind: FormKind::Let(parts),
+            })
+        }
+        Expression::LetStar(at, bound, values, body) => {
+            let parts = star_parts(
+                alloc,
+                names,
+                scope,
+                bound.as_slice(),
+                values.as_slice(),
+                body.get(),
+            )?;
+            Ok(Form {
+                at: *at,
+                kind: FormKind::LetStar(parts),
+            })
+        }
+        Expression::Builtin(at, builtin, parts) => {
+            let parts = forms(alloc, names, scope, parts.as_slice())?;
+            Ok(Form {
+                at: *at,
+                kind: FormKind::Builtin(*builtin, parts),
+            })
+        }
+        Expression::Call(at, name, parts) => {
+            let meaning = names.meaning_of(name.as_slice());
+            call_form(alloc, names, scope, *at, meaning, parts.as_slice())
+        }
+    }
+}
+
+/// A value as a form.
+fn literal_form(alloc: Global, at: u32, literal: &Literal) -> Result<Form, AllocError>
+    ensures { IfOk result (λ f. f ≡ literal_form at literal.now) }
+{
+    let kind = match literal {
+        Literal::Number(number) => FormKind::Number(*number),
+        Literal::T => FormKind::T,
+        Literal::List(numbers) => FormKind::Quoted(Items::from_slice(alloc, numbers.as_slice())?),
+    };
+    Ok(Form { at, kind })
+}
+
+fn special_form(at: u32, special: Special, parts: Items<Form>) -> Form
+    ensures { result ≡ form at (special_kind special parts) }
+{
+    let kind = match special {
+        Special::If => FormKind::If(parts),
+        Special::Cond => FormKind::Cond(parts),
+        Special::And => FormKind::And(parts),
+        Special::Or => FormKind::Or(parts),
+    };
+    Form { at, kind }
+}
+
+/// A name as a form: a variable at its place, or else a constant.
+fn name_form(at: u32, place: Option<usize>, meaning: Option<Meaning>) -> Result<Form, SpecError>
+    ensures { Gives (λ f. f) result (name_form at place meaning) }
+{
+    match place {
+        Some(place) => Ok(Form {
+            at,
+            kind: FormKind::Variable(count(place)),
+        }),
+        None => constant_form(at, meaning),
+    }
+}
+
+fn constant_form(at: u32, meaning: Option<Meaning>) -> Result<Form, SpecError>
+    ensures { Gives (λ f. f) result (constant_form at meaning) }
+{
+    let Some(meaning) = meaning else {
+        return Err(SpecError::UnboundName { at });
+    };
+    match meaning.formals {
+        None => Ok(Form {
+            at,
+            kind: FormKind::Constant(ConstId(meaning.place)),
+        }),
+        Some(_) => Err(SpecError::UnboundName { at }),
+    }
+}
+
+/// The forms of some expressions.
+#[cycle(resolve)]
+#[tactic(auto, using(crate::proofs::Scopes::deepest_part))]
+fn forms(
+    alloc: Global,
+    names: &Names<'_>,
+    scope: &mut Vec<Items<u8>>,
+    parts: &[Expression],
+) -> Result<Items<Form>, SpecError>
+    ensures forms { Gives (λ fs. fs) result (forms (map resolve parts.now) (meaning_in names.now) scope.old.items) }
+    ensures kept { OnOk result (scope.new.items ≡ scope.old.items) }
+{
+    let mut out = Items::new(alloc);
+    for part in parts {
+        let form = resolve(alloc, names, scope, part)?;
+        out.push(form)?;
+    }
+    Ok(out)
+}
+
+/// The values and the body of a `let`.
+#[cycle(resolve)]
+fn let_parts(
+    alloc: Global,
+    names: &Names<'_>,
+    scope: &mut Vec<Items<u8>>,
+    bound: &[Items<u8>],
+    values: &[Expression],
+    body: &Expression,
+) -> Result<Items<Form>, SpecError>
+    ensures forms { Gives (λ fs. fs) result (let_parts bound.now (map resolve values.now) (resolve body.now) (meaning_in names.now) scope.old.items) }
+    ensures kept { OnOk result (scope.new.items ≡ scope.old.items) }
+{
+    let mut out = forms(alloc, names, scope, values)?;
+    let depth = scope.len();
+    bind(alloc, scope, bound)?;
+    let body = resolve(alloc, names, scope, body)?;
+    scope.truncate(depth);
+    out.push(body)?;
+    Ok(out)
+}
+
+/// Adds names to the variables in scope.
+pub fn bind(
+    alloc: Global,
+    scope: &mut Vec<Items<u8>>,
+    bound: &[Items<u8>],
+) -> Result<(), AllocError>
+    ensures { OnOk result (scope.new.items ≡ scope.old.items ++ bound.now) }
+{
+    for name in bound {
+        scope.push(Items::from_slice(alloc, name.as_slice())?)?;
+    }
+    Ok(())
+}
+
+/// Adds the name at a place among some, if one stands there, to the variables in scope.
+fn bind_at(
+    alloc: Global,
+    scope: &mut Vec<Items<u8>>,
+    bound: &[Items<u8>],
+    at: usize,
+) -> Result<(), AllocError>
+    ensures { OnOk result (scope.new.items ≡ scope.old.items ++ take 1 (drop at bound.now)) }
+{
+    if let Some(name) = bound.get(at) {
+        scope.push(Items::from_slice(alloc, name.as_slice())?)?;
+    }
+    Ok(())
+}
+
+/// What is left of some names from a place on.
+fn from(bound: &[Items<u8>], at: usize) -> &[Items<u8>]
+    ensures { result.now ≡ drop at bound.now }
+{
+    bound.split_at(at.min(bound.len())).1
+}
+
+/// The values and the body of a `let*`.
+#[cycle(resolve)]
+#[tactic(auto, using(crate::proofs::Scopes::deepest_part))]
+fn star_parts(
+    alloc: Global,
+    names: &Names<'_>,
+    scope: &mut Vec<Items<u8>>,
+    bound: &[Items<u8>],
+    values: &[Expression],
+    body: &Expression,
+) -> Result<Items<Form>, SpecError>
+    ensures forms { Gives (λ fs. fs) result (star_parts bound.now (map resolve values.now) (resolve body.now) (meaning_in names.now) scope.old.items) }
+    ensures kept { OnOk result (scope.new.items ≡ scope.old.items) }
+{
+    let mut out = Items::new(alloc);
+    let depth = scope.len();
+    for (at, value) in values.iter().enumerate() {
+        let form = resolve(alloc, names, scope, value)?;
+        out.push(form)?;
+        bind_at(alloc, scope, bound, at)?;
+    }
+    bind(alloc, scope, from(bound, values.len()))?;
+    let body = resolve(alloc, names, scope, body)?;
+    scope.truncate(depth);
+    out.push(body)?;
+    Ok(out)
+}
+
+/// A call of what a name means.
+#[cycle(resolve)]
+fn call_form(
+    alloc: Global,
+    names: &Names<'_>,
+    scope: &mut Vec<Items<u8>>,
+    at: u32,
+    meaning: Option<Meaning>,
+    parts: &[Expression],
+) -> Result<Form, SpecError>
+    ensures form { Gives (λ f. f) result (call_form at meaning (length parts.now) (forms (map resolve parts.now) (meaning_in names.now) scope.old.items)) }
+    ensures kept { OnOk result (scope.new.items ≡ scope.old.items) }
+{
+    let Some(meaning) = meaning else {
+        return Err(SpecError::UnboundName { at });
+    };
+    let Some(formals) = meaning.formals else {
+        return Err(SpecError::UnboundName { at });
+    };
+    if formals != parts.len() {
+        return Err(SpecError::BadForm { at });
+    }
+    let parts = forms(alloc, names, scope, parts)?;
+    Ok(Form {
+        at,
+        kind: FormKind::Call(FunId(meaning.place), parts),
+    })
+}
