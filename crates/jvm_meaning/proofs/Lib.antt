@@ -1,2 +1,4 @@
+pub mod TypeLemmas
 pub mod RunLemmas
-pub mod DescriptorLemmas
+pub mod TraceLemmas
+pub mod ShapeLemmas

@@ -1,5 +1,16 @@
 pub mod Values
-pub mod Instructions
+pub mod Stops
+pub mod Types
+pub mod Stacks
+pub mod Words
+pub mod Frames
+pub mod Branches
+pub mod Arrays
+pub mod Constants
+pub mod Fields
+pub mod Calls
+pub mod Operations
 pub mod Machine
 pub mod Runs
+pub mod Traces
 pub mod Descriptors

@@ -1,47 +1,96 @@
--- The run of a method on an input.
-use Rattle.std.specs.Prelude.{ℕ, ◌-◌, Bool, ◌||◌, nat_lt, if◌then◌else◌, List, [], ◌∷◌, ◌++◌, length, replicate, slice_get, Option, Some, None, option_and_then}
+-- The run of a method on an input (JVM Specification SE 8, sections 5.5 and 2.6).
+use Rattle.std.specs.Prelude.{ℕ, zero, suc, List, [], ◌∷◌, ◌++◌, map, take, drop, slice_index, codes, position, Option, Some, None, Ok, Err}
 use Rattle.bv_words.specs.Words.{chop}
 use Rattle.axe_io.specs.declared.parameters.Kind.{Kind}
+use Rattle.axe_io.specs.declared.parameters.Kind.TheVariants as kind
 use Rattle.axe_io.specs.declared.parameters.Param.{Param}
-use Rattle.axe_io.specs.Shapes.{ShapeParts}
+use Rattle.axe_io.specs.Shapes.{ShapeParts, leaf_count, width_of}
 use Rattle.class_reader.specs.Contents.{Contents}
-use Rattle.class_reader.specs.declared.class.Code.{Code}
+use Rattle.class_reader.specs.Members.{answers_to}
 use Rattle.class_reader.specs.declared.class.MethodId.{MethodId}
 use Rattle.jvm_meaning.specs.declared.value.Value.{Value}
-use Rattle.jvm_meaning.specs.declared.value.Value.TheVariants.{Int}
-use Rattle.jvm_meaning.specs.declared.value.Reason.TheVariants.{BadCode}
+use Rattle.jvm_meaning.specs.declared.value.Value.TheVariants as value
 use Rattle.jvm_meaning.specs.declared.value.End.{End}
-use Rattle.jvm_meaning.specs.declared.value.End.TheVariants.{Refused}
-use Rattle.jvm_meaning.specs.declared.frame.Frame.{Frame}
-use Rattle.jvm_meaning.specs.Machine.{narrowed, run_from}
+use Rattle.jvm_meaning.specs.declared.value.End.TheVariants.{MoreSteps}
+use Rattle.jvm_meaning.specs.declared.arrays.Array.{Array}
+use Rattle.jvm_meaning.specs.declared.heap.Heap.{Heap}
+use Rattle.jvm_meaning.specs.declared.state.State.{State}
+use Rattle.jvm_meaning.specs.declared.state.Waiting.{Waiting}
+use Rattle.jvm_meaning.specs.declared.state.Limits.{Limits}
+use Rattle.jvm_meaning.specs.Values.{narrowed}
+use Rattle.jvm_meaning.specs.Fields.{start_values}
+use Rattle.jvm_meaning.specs.Calls.{begin}
+use Rattle.jvm_meaning.specs.Machine.{Step, step, started}
 
--- the argument that a leaf stands for, as an int
+-- ---- arguments
+
+-- a scalar's argument: the two's complement value of its leaf, of a char without sign
 abbrev pub argument : Kind → ℕ → Value
-argument kind leaf = Int (narrowed kind (chop 32 leaf))
+argument kind.Long leaf = value.Long leaf
+argument kind leaf = value.Int (narrowed kind (chop 32 leaf))
 
--- an argument for each scalar parameter
-abbrev pub method_arguments : List Param → List ℕ → List (Option Value)
-method_arguments [] leaves = []
-method_arguments (param ∷ params) [] = []
-method_arguments (param ∷ params) (leaf ∷ leaves) = Some (argument param.kind leaf) ∷ method_arguments params leaves
+abbrev pub argument_in : Option ℕ → ℕ → Kind → List ℕ → Value
+argument_in None arrays kind leaves = argument kind (slice_index leaves 0)
+argument_in (Some count) arrays kind leaves = value.Array arrays
 
--- so many local variables: the arguments, and after them variables that hold nothing
-abbrev pub local_values : ℕ → List Param → List ℕ → List (Option Value)
-local_values room params leaves = method_arguments params leaves ++ replicate (room - length (method_arguments params leaves)) None
+abbrev pub arrays_behind : Option ℕ → ℕ → ℕ
+arrays_behind None arrays = arrays
+arrays_behind (Some count) arrays = suc arrays
 
--- the first frame
-abbrev pub first_frame : MethodId → ℕ → List Param → List ℕ → Frame
-first_frame method room params leaves = record { method = method; pc = 0; locals = local_values room params leaves; stack = [] }
+-- an argument for each parameter: a scalar's is its one leaf, an array's is the next of the arrays
+abbrev pub arguments : ℕ → List Param → List ℕ → List Value
+arguments arrays [] leaves = []
+arguments arrays (p ∷ ps) leaves = argument_in p.len arrays p.kind leaves ∷ arguments (arrays_behind p.len arrays) ps (drop (leaf_count p) leaves)
 
--- a method without room for its parameters, or with more code than a method may have
-abbrev pub is_malformed : Code → ℕ → Bool
-is_malformed code count = nat_lt code.max_locals count || nat_lt 65535 (length code.bytes)
+abbrev pub chopped : Kind → List ℕ → List ℕ
+chopped kind leaves = map (chop (width_of kind)) leaves
 
--- the run of some code; a malformed method is refused at its begin
-abbrev pub code_end : MethodId → Option Code → ShapeParts → List ℕ → ℕ → End
-code_end method None shape leaves steps = Refused BadCode method 0
-code_end method (Some code) shape leaves steps = if is_malformed code (length shape.params) then Refused BadCode method 0 else run_from steps code shape.kind (first_frame method code.max_locals shape.params leaves)
+abbrev pub array_of : Kind → List ℕ → Array
+array_of kind leaves = record { kind = kind; elements = chopped kind leaves }
 
--- the run of a class's method on an input, within so many steps
-unfoldable pub run_end : Contents → MethodId → ShapeParts → List ℕ → ℕ → End
-run_end class method shape leaves steps = code_end method (option_and_then (λ m. m.code) (slice_get class.methods method.0)) shape leaves steps
+abbrev pub arrays_of : Option ℕ → Kind → List ℕ → List Array
+arrays_of None kind leaves = []
+arrays_of (Some count) kind leaves = array_of kind (take count leaves) ∷ []
+
+-- the arrays of the parameters, in their order: an element is a leaf
+abbrev pub parameter_arrays : List Param → List ℕ → List Array
+parameter_arrays [] leaves = []
+parameter_arrays (p ∷ ps) leaves = arrays_of p.len p.kind leaves ++ parameter_arrays ps (drop (leaf_count p) leaves)
+
+-- ---- the first state
+
+-- static fields have their starting values, and no element is made; parameter arrays aren't counted
+abbrev pub start_heap : Contents → ShapeParts → List ℕ → Heap
+start_heap class shape leaves = record { arrays = parameter_arrays shape.params leaves; statics = start_values class; made = 0 }
+
+-- the initialiser: a static <clinit> of ()V with Code
+abbrev pub initialiser_of : Contents → Option ℕ
+initialiser_of class = position (answers_to (codes "<clinit>") (Some (codes "()V"))) class.methods
+
+abbrev pub waiting_for : MethodId → List Value → Waiting
+waiting_for method values = record { method = method; arguments = values }
+
+abbrev pub start_by : Contents → MethodId → List Value → Heap → Option ℕ → Step
+start_by class method values heap None = started method heap None (begin class method values)
+start_by class method values heap (Some at) =
+    started (record { 0 = at }) heap (Some (waiting_for method values)) (begin class (record { 0 = at }) [])
+
+-- the method begins, or waits while the initialiser runs
+abbrev pub start : Contents → MethodId → ShapeParts → List ℕ → Step
+start class method shape leaves = start_by class method (arguments 0 shape.params leaves) (start_heap class shape leaves) (initialiser_of class)
+
+-- ---- the run
+
+abbrev pub after : Step → (State → End) → End
+after (Ok s) run = run s
+after (Err end) run = end
+
+-- the end of at most so many instructions
+unfoldable pub run_from : ℕ → Contents → ShapeParts → Limits → State → End
+run_from zero class shape limits s = MoreSteps
+run_from (suc n) class shape limits s = after (step class shape limits s) (run_from n class shape limits)
+
+-- the run of a class's method on an input, within so many steps, frames and elements
+unfoldable pub run_end : Contents → MethodId → ShapeParts → List ℕ → ℕ → ℕ → ℕ → End
+run_end class method shape leaves steps frames elements =
+    after (start class method shape leaves) (run_from steps class shape (record { frames = frames; elements = elements }))

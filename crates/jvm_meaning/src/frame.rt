@@ -1,13 +1,29 @@
-use crate::locals::Locals;
+ghost use Rattle.std.specs.Prelude.{◌≡◌, [], ◌∷◌, length};
+
+use crate::cells::Cells;
 use crate::stack::Stack;
+use crate::variables::Locals;
 use class_reader::MethodId;
+use std::alloc::Global;
 
 /// A method that is open (JVM Specification SE 8, section 2.6): its place in the code, its local variables, of which
 /// some hold nothing, and its operands.
-#[derive(Debug, Drop)]
+#[derive(Drop)]
 pub struct Frame {
     pub method: MethodId,
     pub pc: u32,
     pub locals: Locals,
     pub stack: Stack,
+}
+
+impl Frame {
+    /// A frame without local variables and operands, which takes no memory.
+    pub fn new(alloc: Global) -> Frame {
+        Frame {
+            method: MethodId(0),
+            pc: 0,
+            locals: Cells::new(alloc),
+            stack: Stack::new(alloc),
+        }
+    }
 }

@@ -1,23 +1,48 @@
-//! The meaning of a method: one run of its code on one input.
+//! The meaning of a method: one run of its code on one input, by the instructions of the profile (JVM Specification
+//! SE 8, chapter 6).
 //!
-//! `value` has values and the ends of a run, `stack`, `locals` and `frame` what a method works on, `operation` the
-//! instructions, `constants`, `loads`, `arithmetic` and `returns` what they do, `step` one instruction, `run` the run,
-//! and `descriptor` the shape of a method.
+//! What a run works on: `value` has values and the ends of a run, `sorts` and `types` what values are told apart by,
+//! `stack`, `cells`, `frame`, `callers`, `arrays`, `heap` and `state` what a state holds, and `stop` why an
+//! instruction doesn't go on. What instructions do: `operation` names them and `table` reads them from the code;
+//! `block` and `stack_moves`, `arithmetic`, `variables`, `branches`, `array_use`, `constants`, `fields`, `calls` and
+//! `returns` have one small function each a family. `step` makes one instruction, with `closing` for returns; `run`
+//! makes a run, from the `arguments` of an input. `descriptor` has the shape of a method, and `laws` what follows
+//! for all runs.
+//!
+//! `specs/` says the same as definitions, in files of the same names, which read in the order of `specs/Lib.antt`.
 #![tactic(auto)]
 
+mod arguments;
 mod arithmetic;
+mod array_use;
+mod arrays;
+mod block;
+mod branches;
+mod callers;
+mod calls;
+mod cells;
+mod closing;
 mod constants;
 mod descriptor;
+mod fields;
 mod frame;
-mod loads;
-mod locals;
+mod heap;
+mod laws;
 mod operation;
 mod returns;
 mod run;
+mod sorts;
 mod stack;
+mod stack_moves;
+mod state;
 mod step;
+mod stop;
+mod table;
+mod types;
 mod value;
+mod variables;
 
-pub use descriptor::shape_of;
+pub use descriptor::{ShapeError, shape_of};
+pub use laws::runs_both_ways;
 pub use run::Machine;
 pub use value::{End, Reason, Seen, Throw, Value};

@@ -1,87 +1,145 @@
-ghost use Rattle.std.specs.Prelude.{◌≡◌, ◌≤◌, ◌<◌, ◌+◌, length, IfOk};
-ghost use Rattle.jvm_meaning.specs.Instructions.{instruction_at, with_operation, reason_of, operation_of};
+use crate::block::Span;
+use crate::sorts::{Sort, Width};
+use crate::value::Value;
+use axe_io::Kind;
 
-use crate::value::Reason;
-use class_reader::Code;
-use jvm_code::{CodeError, Inst, decode};
-
-/// What an instruction does (JVM Specification SE 8, section 6.5).
-#[derive(Clone, Copy, Debug, PartialEq, Eq)]
+/// What an instruction does (JVM Specification SE 8, section 6.5). Numbers are of local variables and of constants.
+#[derive(Clone, Copy)]
 pub enum Operation {
-    /// iload_0 to iload_3: pushes the int of a local variable.
-    LoadInt(u16),
-    /// bipush: pushes a byte with its sign.
-    PushByte(i32),
-    /// iadd.
-    AddInt,
-    /// iand.
-    AndInt,
-    /// ixor.
-    XorInt,
-    /// i2b.
-    IntToByte,
-    /// ireturn.
-    ReturnInt,
+    /// nop.
+    Nothing,
+    /// Changes the operands alone.
+    Stack(StackOperation),
+    /// Reads or writes a local variable.
+    Local(LocalOperation),
+    /// Goes on elsewhere, by an offset from the branch's opcode.
+    Branch(Condition, i32),
+    /// Makes, reads or writes an array.
+    Array(ArrayOperation),
+    /// ldc, ldc_w, ldc2_w: pushes a constant of a width; the opcode is named where it is refused.
+    LoadConstant(u8, Width, u16),
+    /// getstatic.
+    GetStatic(u16),
+    /// putstatic.
+    PutStatic(u16),
+    /// invokestatic.
+    Invoke(u16),
+    /// ireturn, lreturn, areturn, and return, which gives nothing.
+    Return(Option<Sort>),
+}
+
+/// What is done to the operands alone.
+#[derive(Clone, Copy)]
+pub enum StackOperation {
+    /// aconst_null, iconst_<i>, lconst_<l>, bipush, sipush.
+    Push(Value),
+    /// pop, pop2.
+    Discard(Span),
+    /// dup, dup2 and their forms: the upper block goes under the lower one.
+    Duplicate(Span, Span),
+    /// swap.
+    Swap,
+    /// add, sub, mul, and, or, xor.
+    Binary(Binary, Width),
+    /// neg.
+    Negate(Width),
+    /// shl, shr, ushr.
+    Shift(Shift, Width),
+    /// The rotations of java.lang.Integer and java.lang.Long.
+    Rotate(Turn, Width),
+    /// i2l.
+    ToLong,
+    /// l2i.
+    ToInt,
+    /// i2b, i2c, i2s.
+    Narrow(Kind),
+    /// lcmp.
+    Compare,
+}
+
+/// An operation on two words of one width.
+#[derive(Clone, Copy)]
+pub enum Binary {
+    Add,
+    Subtract,
+    Multiply,
+    And,
+    Or,
+    Xor,
+}
+
+/// The way of a shift; to the right the sign is kept, or zeros come in.
+#[derive(Clone, Copy)]
+pub enum Shift {
+    Left,
+    Right,
+    UnsignedRight,
+}
+
+/// The way of a rotation.
+#[derive(Clone, Copy)]
+pub enum Turn {
+    Left,
+    Right,
+}
+
+/// What is done to a local variable.
+#[derive(Clone, Copy)]
+pub enum LocalOperation {
+    /// iload, lload, aload.
+    Load(Sort, u16),
+    /// istore, lstore, astore.
+    Store(Sort, u16),
+    /// iinc.
+    Increment(u16, i32),
+}
+
+/// What is done with an array.
+#[derive(Clone, Copy)]
+pub enum ArrayOperation {
+    /// baload, caload, saload, iaload, laload.
+    LoadElement(Kind),
+    /// bastore, castore, sastore, iastore, lastore.
+    StoreElement(Kind),
+    /// newarray.
+    NewArray(Kind),
+    /// arraylength.
+    ArrayLength,
+}
+
+/// When a branch is taken.
+#[derive(Clone, Copy)]
+pub enum Condition {
+    /// goto, goto_w.
+    Always,
+    /// ifeq, ifne, iflt, ifge, ifgt, ifle: an int against 0.
+    IfZero(Test),
+    /// if_icmpeq, if_icmpne, if_icmplt, if_icmpge, if_icmpgt, if_icmple.
+    IfInts(Test),
+    /// if_acmpeq.
+    IfSame,
+    /// if_acmpne.
+    IfNotSame,
+    /// ifnull.
+    IfNull,
+    /// ifnonnull.
+    IfNotNull,
+}
+
+/// A test of two signed ints.
+#[derive(Clone, Copy)]
+pub enum Test {
+    Equal,
+    NotEqual,
+    Less,
+    NotLess,
+    Greater,
+    NotGreater,
 }
 
 /// An operation, and the bytes that the instruction takes.
-#[derive(Clone, Copy, Debug, PartialEq, Eq)]
+#[derive(Clone, Copy)]
 pub struct Instruction {
     pub operation: Operation,
     pub size: u32,
-}
-
-/// The instruction at a place of the code: BadCode where the place or an operand is outside the code, and
-/// OutsideProfile where the opcode has no row in the table, or no step.
-pub fn instruction_at(code: &Code, pc: u32) -> Result<Instruction, Reason>
-    ensures value { result ≡ instruction_at code.now pc }
-    ensures within { IfOk result (λ i. pc + i.size ≤ length code.now.bytes) }
-{
-    match decode(code.bytes.as_slice(), pc) {
-        Ok(inst) => with_operation(inst),
-        Err(error) => Err(reason_of(error)),
-    }
-}
-
-/// An instruction of the table, if it has a step.
-fn with_operation(inst: Inst) -> Result<Instruction, Reason>
-    ensures value { result ≡ with_operation inst.op inst.size (operation_of inst.op inst.first) }
-    ensures size { IfOk result (λ i. i.size ≡ inst.size) }
-{
-    match operation_of(inst.op, inst.first) {
-        Some(operation) => Ok(Instruction {
-            operation,
-            size: inst.size,
-        }),
-        None => Err(Reason::OutsideProfile { op: inst.op }),
-    }
-}
-
-/// Why there is no instruction.
-fn reason_of(error: CodeError) -> Reason
-    ensures { result ≡ reason_of error }
-{
-    match error {
-        CodeError::OutOfCode { .. } | CodeError::Cut { .. } => Reason::BadCode,
-        CodeError::OutsideTable { op, .. } => Reason::OutsideProfile { op },
-    }
-}
-
-/// What an opcode with this first operand does, if it has a step.
-fn operation_of(op: u8, first: i32) -> Option<Operation>
-    ensures { result ≡ operation_of op first }
-{
-    match op {
-        16 => Some(Operation::PushByte(first)),
-        26 => Some(Operation::LoadInt(0)),
-        27 => Some(Operation::LoadInt(1)),
-        28 => Some(Operation::LoadInt(2)),
-        29 => Some(Operation::LoadInt(3)),
-        96 => Some(Operation::AddInt),
-        126 => Some(Operation::AndInt),
-        130 => Some(Operation::XorInt),
-        145 => Some(Operation::IntToByte),
-        172 => Some(Operation::ReturnInt),
-        _ => None,
-    }
 }

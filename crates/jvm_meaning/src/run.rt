@@ -1,39 +1,51 @@
-ghost use Rattle.std.specs.Prelude.{◌≡◌, ℕ, ◌<◌, ◌≤◌, ◌^◌, IfOk, OnOk, length, Some};
-ghost use Rattle.jvm_meaning.specs.Machine.{run_from};
-ghost use Rattle.jvm_meaning.specs.Runs.{run_end, code_end, first_frame};
+ghost use Rattle.std.specs.Prelude.{◌≡◌, ◌<◌, length, option_map, IfOk, OnOk};
+ghost use Rattle.jvm_meaning.specs.Machine.{TakesStep};
+ghost use Rattle.jvm_meaning.specs.Runs.{start_heap, initialiser_of, start, start_by, run_from, run_end};
 
+use crate::arguments::{arguments, parameter_arrays};
+use crate::arrays::Arrays;
+use crate::callers::Callers;
+use crate::cells::Cells;
+use crate::closing::start;
+use crate::fields::start_values;
 use crate::frame::Frame;
-use crate::locals::Locals;
-use crate::stack::Stack;
+use crate::heap::Heap;
+use crate::state::{Limits, State, Waiting};
 use crate::step::step;
-use crate::value::{End, Reason};
-use axe_io::{Input, Kind, Memory, Param, Shape};
-use class_reader::{ClassFile, Code, MethodId};
+use crate::value::{End, Value};
+use axe_io::{Input, Memory, Shape};
+use class_reader::{ClassFile, MethodId};
+use sqlite_items::Items;
 use std::alloc::{AllocError, Global};
 
-/// How many bytes of code a method may have (JVM Specification SE 8, section 4.7.3).
-const LONGEST_CODE: usize = 65_535;
-
-/// A machine that runs methods, one after another, and keeps the memory of its frame between runs.
-#[derive(Debug, Drop)]
+/// A machine that runs methods, one after another, and keeps its memory between runs.
+#[derive(Drop)]
 pub struct Machine {
-    frame: Frame,
+    alloc: Global,
+    state: State,
 }
 
 impl Machine {
     /// A machine that has run nothing yet, which takes no memory.
     pub fn new(alloc: Global) -> Machine {
         Machine {
-            frame: Frame {
-                method: MethodId(0),
-                pc: 0,
-                locals: Locals::new(alloc),
-                stack: Stack::new(alloc),
+            alloc,
+            state: State {
+                frame: Frame::new(alloc),
+                callers: Callers::new(alloc),
+                waiting: None,
+                heap: Heap {
+                    arrays: Arrays::new(alloc),
+                    statics: Cells::new(alloc),
+                    made: 0,
+                },
             },
         }
     }
 
-    /// The run of a method on an input of its shape, of at most `steps` instructions, whatever was run before.
+    /// The run of a method on an input of its shape, whatever was run before: static fields get their starting
+    /// values, the class's initialiser runs, and then the method, with at most `steps` instructions, `frames` open
+    /// frames and `elements` elements that `newarray` makes.
     #[tactic(auto, unfolding(crate::specs::Runs::run_end))]
     pub fn run(
         &mut self,
@@ -42,72 +54,95 @@ impl Machine {
         shape: &Shape,
         input: &Input,
         steps: u64,
+        frames: u32,
+        elements: u64,
     ) -> Result<End, Memory>
         requires { method.0 < length class.now.methods }
-        ensures { IfOk result (λ end. end ≡ run_end class.now method shape.now input.now steps) }
+        ensures { IfOk result (λ end. end ≡ run_end class.now method shape.now input.now steps frames elements) }
     {
-        match &class.method(method).code {
-            Some(code) => Ok(run_code(&mut self.frame, method, code, shape, input, steps)?),
-            None => Ok(bad_begin(method)),
+        let state = &mut self.state;
+        if let Some(end) = begin_run(self.alloc, class, method, shape, input.leaves(), state)? {
+            return Ok(end);
+        }
+        let limits = Limits { frames, elements };
+        Ok(run_from(self.alloc, steps, class, shape, limits, state)?)
+    }
+}
+
+/// Makes a state the first one of a run; the run may end at once.
+fn begin_run(
+    alloc: Global,
+    class: &ClassFile,
+    method: MethodId,
+    shape: &Shape,
+    leaves: &[u64],
+    state: &mut State,
+) -> Result<Option<End>, AllocError>
+    ensures { IfOk result (TakesStep (start class.now method shape.now leaves.now) state.new) }
+{
+    begin_heap(alloc, class, shape, leaves, &mut state.heap)?;
+    let values = arguments(alloc, shape.params(), leaves)?;
+    begin_method(class, method, values, state)
+}
+
+/// Makes the arrays those of the parameters, and the static fields those that a run begins with.
+fn begin_heap(
+    alloc: Global,
+    class: &ClassFile,
+    shape: &Shape,
+    leaves: &[u64],
+    heap: &mut Heap,
+) -> Result<(), AllocError>
+    ensures { OnOk result (heap.new ≡ start_heap class.now shape.now leaves.now) }
+{
+    parameter_arrays(alloc, shape.params(), leaves, &mut heap.arrays)?;
+    start_values(class, &mut heap.statics)?;
+    heap.made = 0;
+    Ok(())
+}
+
+/// The initialiser of a class, if it has one.
+fn initialiser_of(class: &ClassFile) -> Option<MethodId>
+    ensures { option_map (λ id. id.0) result ≡ initialiser_of class.now }
+{
+    class.find(b"<clinit>", Some(b"()V")).first
+}
+
+/// Begins the initialiser, for which the method waits, or else the method.
+fn begin_method(
+    class: &ClassFile,
+    method: MethodId,
+    values: Vec<Value>,
+    state: &mut State,
+) -> Result<Option<End>, AllocError>
+    ensures { IfOk result (TakesStep (start_by class.now method values.items state.old.heap (initialiser_of class.now)) state.new) }
+{
+    match initialiser_of(class) {
+        Some(initialiser) => {
+            let arguments = Items::from_vec(values);
+            state.waiting = Some(Waiting { method, arguments });
+            start(class, initialiser, &[], state)
+        }
+        None => {
+            state.waiting = None;
+            start(class, method, values.as_slice(), state)
         }
     }
 }
 
-/// The run of some code in a frame that begins anew.
-fn run_code(
-    frame: &mut Frame,
-    method: MethodId,
-    code: &Code,
-    shape: &Shape,
-    input: &Input,
-    steps: u64,
-) -> Result<End, AllocError>
-    ensures { IfOk result (λ end. end ≡ code_end method (Some code.now) shape.now input.now steps) }
-{
-    let room = usize::from(code.max_locals);
-    if shape.params().len() > room || code.bytes.len() > LONGEST_CODE {
-        return Ok(bad_begin(method));
-    }
-    begin(frame, method, room, shape.params(), input.leaves())?;
-    run_from(steps, code, shape.kind(), frame)
-}
-
-/// Makes a frame the first one of a method with room for its parameters.
-fn begin(
-    frame: &mut Frame,
-    method: MethodId,
-    room: usize,
-    params: &[Param],
-    leaves: &[u64],
-) -> Result<(), AllocError>
-    requires { length params.now ≤ room }
-    ensures { OnOk result (frame.new ≡ first_frame method room params.now leaves.now) }
-{
-    frame.method = method;
-    frame.pc = 0;
-    frame.stack.clear();
-    frame.locals.begin(room, params, leaves)
-}
-
-/// A refusal at the begin of a method.
-fn bad_begin(method: MethodId) -> End
-    ensures { result ≡ End.Refused Reason.BadCode method 0 }
-{
-    End::Refused {
-        reason: Reason::BadCode,
-        method,
-        pc: 0,
-    }
-}
-
 /// The end of at most so many instructions.
-fn run_from(steps: u64, code: &Code, kind: Kind, frame: &mut Frame) -> Result<End, AllocError>
-    requires begin { frame.old.pc ≡ 0 }
-    requires short { length code.now.bytes ≤ 65535 }
-    ensures { IfOk result (λ end. end ≡ run_from steps code.now kind frame.old) }
+fn run_from(
+    alloc: Global,
+    steps: u64,
+    class: &ClassFile,
+    shape: &Shape,
+    limits: Limits,
+    state: &mut State,
+) -> Result<End, AllocError>
+    ensures { IfOk result (λ end. end ≡ run_from steps class.now shape.now limits state.old) }
 {
     for _ in 0..steps {
-        if let Some(end) = step(frame, code, kind)? {
+        if let Some(end) = step(alloc, class, shape, limits, state)? {
             return Ok(end);
         }
     }

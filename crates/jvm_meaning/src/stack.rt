@@ -1,12 +1,16 @@
-ghost use Rattle.std.specs.Prelude.{◌≡◌, ◌≤◌, ◌+◌, [], ◌∷◌, IfOk, MatchOption, Ok, true, false, length};
-ghost use Rattle.jvm_meaning.specs.Values.{depth_of, int_at, PushesOn};
+ghost use Rattle.std.specs.Prelude.{◌≡◌, ◌≤◌, ◌+◌, ◌^◌, ◌<◌, [], ◌∷◌, ℕ, IfOk, MatchOption, Ok, Option, length};
+ghost use Rattle.jvm_meaning.specs.Values.{bits_in, depth_of};
+ghost use Rattle.jvm_meaning.specs.Stacks.{push as push_of, pop as pop_of, pop_sort as pop_sort_of, pop_word as pop_word_of, pop_int as pop_int_of, pop_reference as pop_reference_of};
+ghost use Rattle.jvm_meaning.specs.Stops.{Gives};
 
-use crate::value::Value;
-use std::alloc::{AllocError, Global};
+use crate::sorts::{Sort, Width};
+use crate::stop::{Halt, refuse};
+use crate::value::{Reason, Value};
+use std::alloc::Global;
 use std::marker::Model;
 
 /// An operand stack (JVM Specification SE 8, section 2.6.2). Contracts see its values from the top.
-#[derive(Debug, Drop)]
+#[derive(Drop)]
 pub struct Stack {
     values: Vec<Value>,
     slots: u32,
@@ -15,7 +19,7 @@ pub struct Stack {
 impl Model for Stack {
     ghost use Rattle.std.specs.Prelude.{◌≡◌, ◌≤◌, List, reverse};
     ghost use Rattle.jvm_meaning.specs.declared.value.Value.{Value as Operand};
-    ghost use Rattle.jvm_meaning.specs.Values.{depth_of, int_at, PushesOn};
+    ghost use Rattle.jvm_meaning.specs.Values.{depth_of};
 
     ghost Value = { List Operand };
 
@@ -43,35 +47,74 @@ impl Stack {
         self.slots = 0;
     }
 
-    /// Takes the value at the top.
-    pub fn pop(&mut self) -> Option<Value>
-        ensures { MatchOption result ((self.old ≡ []) × (self.new ≡ [])) (λ value. self.old ≡ value ∷ self.new) }
-    {
-        let value = self.values.pop()?;
-        self.slots -= value.slots();
-        Some(value)
-    }
-
-    /// Puts a value at the top where the stack stays within a depth, and else answers false.
-    pub fn push(&mut self, value: Value, depth: u16) -> Result<bool, AllocError>
-        ensures { IfOk result (PushesOn self.old self.new value depth) }
+    /// Puts a value at the top, where the stack stays within a depth.
+    pub fn push(&mut self, value: Value, depth: u16) -> Result<(), Halt>
+        ensures { Gives (λ _. self.new) result (push_of depth value self.old) }
     {
         let slots = self.slots + value.slots();
         if slots > u32::from(depth) {
-            return Ok(false);
+            return refuse(Reason::BadCode);
         }
         self.values.push(value)?;
         self.slots = slots;
-        Ok(true)
+        Ok(())
     }
 
-    /// Takes the int at the top; None exactly where none stands there, and the stack may then be any.
-    pub fn pop_int(&mut self) -> Option<u32>
-        ensures { MatchOption result (int_at self.old ≡ None) (λ n. int_at self.old ≡ Some (n, self.new)) }
+    /// Takes the value at the top.
+    pub fn pop(&mut self) -> Result<Value, Halt>
+        ensures { Gives (λ value. (value, self.new)) result (pop_of self.old) }
     {
-        match self.pop() {
-            Some(Value::Int(number)) => Some(number),
-            _ => None,
+        match self.values.pop() {
+            Some(value) => {
+                self.slots -= value.slots();
+                Ok(value)
+            }
+            None => refuse(Reason::WrongOperand),
+        }
+    }
+
+    /// Takes the value at the top, which has to be of a sort.
+    pub fn pop_sort(&mut self, sort: Sort) -> Result<Value, Halt>
+        ensures { Gives (λ value. (value, self.new)) result (pop_sort_of sort self.old) }
+    {
+        let value = self.pop()?;
+        if sort.has(value) {
+            Ok(value)
+        } else {
+            refuse(Reason::WrongOperand)
+        }
+    }
+
+    /// Takes the word at the top, which has to be of a width.
+    pub fn pop_word(&mut self, width: Width) -> Result<u64, Halt>
+        ensures word { Gives (λ n. (n, self.new)) result (pop_word_of width self.old) }
+        ensures below { IfOk result (λ n. n < 2 ^ bits_in width) }
+    {
+        match (width, self.pop()?) {
+            (Width::Int, Value::Int(word)) => Ok(u64::from(word)),
+            (Width::Long, Value::Long(word)) => Ok(word),
+            _ => refuse(Reason::WrongOperand),
+        }
+    }
+
+    /// Takes the int at the top.
+    pub fn pop_int(&mut self) -> Result<u32, Halt>
+        ensures { Gives (λ n. (n, self.new)) result (pop_int_of self.old) }
+    {
+        match self.pop()? {
+            Value::Int(word) => Ok(word),
+            _ => refuse(Reason::WrongOperand),
+        }
+    }
+
+    /// Takes the reference at the top: an array's number, or None where it is null.
+    pub fn pop_reference(&mut self) -> Result<Option<u32>, Halt>
+        ensures { Gives (λ r. (r, self.new)) result (pop_reference_of self.old) }
+    {
+        match self.pop()? {
+            Value::Null => Ok(None),
+            Value::Array(number) => Ok(Some(number)),
+            _ => refuse(Reason::WrongOperand),
         }
     }
 }
