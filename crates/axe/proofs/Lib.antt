@@ -1,1 +1,2 @@
+pub mod FewSizes
 pub mod Finding

@@ -1,9 +1,8 @@
 -- Why a stage stops.
 use Rattle.std.specs.Prelude.{◌≡◌, ◌⊎◌, ℕ, List, Some, None, Err}
 use Rattle.axe_io.specs.Ends.{Told, IsLonger, Rose}
-use Rattle.verdict_text.specs.declared.verdict.Part.TheVariants as part
 use Rattle.verdict_text.specs.declared.verdict.Refusal.{Refusal}
-use Rattle.verdict_text.specs.declared.verdict.Refusal.TheVariants.{NotBuilt, ClassLong}
+use Rattle.verdict_text.specs.declared.verdict.Refusal.TheVariants.{ClassLong, SpecLong}
 use Rattle.axe.specs.declared.given.Named.{Named}
 use Rattle.axe.specs.declared.given.Named.TheVariants as named
 use Rattle.axe.specs.declared.parts.Stop.{Stop}
@@ -14,7 +13,7 @@ use Rattle.axe.specs.Answers.{IsFound, IsMissing}
 -- the refusal of a text that is too long
 abbrev pub refused_long : Named → Refusal
 refused_long named.Class = ClassLong
-refused_long named.Spec = NotBuilt part.Spec
+refused_long named.Spec = SpecLong
 
 -- a read answered so
 abbrev pub HasGivenCause : Told → Named → ℕ → ℕ → Stop → Type 0

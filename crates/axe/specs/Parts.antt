@@ -1,5 +1,5 @@
 -- What a job is made of.
-use Rattle.std.specs.Prelude.{◌≡◌, ℕ, List, Option, option_map, Result, Ok, Err}
+use Rattle.std.specs.Prelude.{◌≡◌, ◌≤◌, ℕ, List, Option, option_map, Result, Ok, Err}
 use Rattle.std.specs.String.{string_bytes}
 use Rattle.axe_io.specs.Shapes.{ShapeParts}
 use Rattle.axe_io.specs.declared.parameters.OutPlace.{OutPlace}
@@ -10,6 +10,7 @@ use Rattle.class_reader.specs.Contents.{Contents}
 use Rattle.class_reader.specs.declared.class.MethodId.{MethodId}
 use Rattle.spec_reader.specs.declared.program.Program.{Program}
 use Rattle.spec_reader.specs.declared.program.FunId.{FunId}
+use Rattle.jvm_meaning.specs.Descriptors.{total}
 use Rattle.job_meaning.specs.Jobs.{Job as Pair}
 use Rattle.verdict_text.specs.declared.verdict.Refusal.{Refusal}
 use Rattle.axe.specs.declared.parts.Parts as code
@@ -47,7 +48,7 @@ parts p = record { class = p.class; method = p.method; program = p.program; func
 
 -- the job of these parts within the limits of the words
 abbrev pub pair_of : Budgets → Parts → Pair
-pair_of b p = record { class = p.class; method = p.method; program = p.program; function = p.function; shape = p.shape; steps = b.steps; depth = b.depth; work = b.work }
+pair_of b p = record { class = p.class; method = p.method; program = p.program; function = p.function; shape = p.shape; steps = b.steps; frames = b.frames; elements = b.elements; depth = b.depth; work = b.work }
 
 -- a stage's stop is the refusal that the stage gives, unless memory ran out
 abbrev pub Fails : {Y : Type 0} → Stop → Result Y Refusal → Type 0
@@ -59,3 +60,7 @@ Fails Memory stage = Unit {0}
 abbrev pub Gives : {X Y : Type 0} → (X → Y) → Result X Stop → Result Y Refusal → Type 0
 Gives view (Ok x) stage = stage ≡ Ok (view x)
 Gives view (Err stop) stage = Fails stop stage
+
+-- the sizes that words may give have a sum of at most 16,384
+abbrev pub HasFewSizes : Words → Type 0
+HasFewSizes w = total w.sizes ≤ 16384

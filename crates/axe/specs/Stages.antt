@@ -1,22 +1,20 @@
 -- The stages that find a job's parts, in their order. Each gives a part, or the refusal of the job.
-use Rattle.std.specs.Prelude.{ℕ, ◌==◌, nat_lt, ◌&&◌, not, if◌then◌else◌, Bool, true, false, List, length, codes, count_by, position, slice_get, Option, Some, None, Result, Ok, Err}
+use Rattle.std.specs.Prelude.{ℕ, ◌==◌, if◌then◌else◌, List, length, count_by, position, slice_get, Option, Some, None, Result, Ok, Err}
 use Rattle.axe_io.specs.Shapes.{ShapeParts}
-use Rattle.axe_io.specs.declared.parameters.OutPlace.{OutPlace}
-use Rattle.axe_io.specs.declared.parameters.OutPlace.TheVariants.{Returned, Param}
 use Rattle.class_reader.specs.Contents.{Contents}
 use Rattle.class_reader.specs.Members.{answers_to}
 use Rattle.class_reader.specs.ClassReaders.{class_of}
 use Rattle.class_reader.specs.declared.class.MethodId.{MethodId}
 use Rattle.class_reader.specs.declared.error.ClassError.{ClassError}
+use Rattle.jvm_meaning.specs.declared.descriptor.ShapeError.{ShapeError}
 use Rattle.jvm_meaning.specs.Descriptors.{shape_end}
 use Rattle.spec_reader.specs.Programs.{program_of, function_named}
 use Rattle.spec_reader.specs.declared.program.Program.{Program}
-use Rattle.spec_reader.specs.declared.program.Function.{Function}
+use Rattle.spec_reader.specs.declared.program.Function.{Function as ProgramFunction}
 use Rattle.spec_reader.specs.declared.program.FunId.{FunId}
 use Rattle.spec_reader.specs.declared.error.SpecError.{SpecError}
-use Rattle.verdict_text.specs.declared.verdict.Part.TheVariants as part
 use Rattle.verdict_text.specs.declared.verdict.Refusal.{Refusal}
-use Rattle.verdict_text.specs.declared.verdict.Refusal.TheVariants.{NotBuilt, ClassLong, Class, Method}
+use Rattle.verdict_text.specs.declared.verdict.Refusal.TheVariants.{ClassLong, Class, Method, SpecLong, Spec, Function, Shape, Formals}
 use Rattle.axe.specs.Parts.{Words, Parts}
 
 infixl 10 ◌>>=◌
@@ -55,46 +53,36 @@ method_stage w given = do
 
 abbrev pub programmed : Result Program SpecError → Result Program Refusal
 programmed (Ok p) = Ok p
-programmed (Err e) = Err (NotBuilt part.Spec)
+programmed (Err e) = Err (Spec e)
 
+-- a specification that was given, if it isn't too long
 abbrev pub program_given : Option (List ℕ) → Result Program Refusal
-program_given None = Err (NotBuilt part.Spec)
-program_given (Some bytes) = if nat_lt 4096 (length bytes) then Err (NotBuilt part.Spec) else programmed (program_of bytes)
+program_given None = Err SpecLong
+program_given (Some bytes) = programmed (program_of bytes)
 
 abbrev pub function_found : Option ℕ → Result FunId Refusal
 function_found (Some k) = Ok (record { 0 = k })
-function_found None = Err (NotBuilt part.Function)
+function_found None = Err Function
 
 abbrev pub function_in : Words → Program → Result FunId Refusal
 function_in w p = function_found (function_named p.functions w.function)
 
 -- ---- the shape
 
--- the class has a static initialiser with Code
-abbrev pub has_initialiser : Contents → Bool
-has_initialiser c = not (count_by (answers_to (codes "<clinit>") (Some (codes "()V"))) c.methods == 0)
+-- the function has a formal for each parameter
+abbrev pub with_formals : ℕ → ShapeParts → Result ShapeParts Refusal
+with_formals formals shape = if formals == length shape.params then Ok shape else Err (Formals formals (length shape.params))
 
-abbrev pub is_returned : OutPlace → Bool
-is_returned Returned = true
-is_returned (Param k) = false
+abbrev pub shape_found : ℕ → Result ShapeParts ShapeError → Result ShapeParts Refusal
+shape_found formals (Ok shape) = with_formals formals shape
+shape_found formals (Err e) = Err (Shape e)
 
--- sizes and a place of the result that a method without arrays has
-abbrev pub is_plain : Words → Bool
-is_plain w = (length w.sizes == 0) && is_returned w.out
-
-abbrev pub shape_fits : Words → Contents → ℕ → ShapeParts → Bool
-shape_fits w c formals shape = (not (has_initialiser c) && is_plain w) && (formals == length shape.params)
-
-abbrev pub shape_found : Words → Contents → ℕ → Option ShapeParts → Result ShapeParts Refusal
-shape_found w c formals None = Err (NotBuilt part.Shape)
-shape_found w c formals (Some shape) = if shape_fits w c formals shape then Ok shape else Err (NotBuilt part.Shape)
-
-abbrev pub formals_of : Option Function → ℕ
+abbrev pub formals_of : Option ProgramFunction → ℕ
 formals_of None = 0
 formals_of (Some f) = f.formals
 
 abbrev pub shape_in : Words → Contents → MethodId → ℕ → Result ShapeParts Refusal
-shape_in w c m formals = shape_found w c formals (shape_end c m)
+shape_in w c m formals = shape_found formals (shape_end c m w.sizes w.out)
 
 -- ---- all parts
 

@@ -1,6 +1,6 @@
 ghost use Rattle.std.specs.Prelude.{◌≡◌, ◌<◌, ℕ, map, string_bytes, option_map, IfOk, MatchResult, Ok, Err, Some, length};
 ghost use Rattle.axe_words.specs.Meaning.{IsJob};
-ghost use Rattle.axe.specs.Parts.{words_of, meant, parts as parts_there};
+ghost use Rattle.axe.specs.Parts.{HasFewSizes, words_of, meant, parts as parts_there};
 ghost use Rattle.axe.specs.Answers.{refusal, answer_of, verdict_on, IsRight, IsJobAnswer};
 ghost use Rattle.axe.specs.Causes.{HasJobStopCause};
 ghost use Rattle.axe.specs.Runs.{HasStopCause, answer};
@@ -74,6 +74,7 @@ pub fn answer_to<S: Store>(alloc: Global, words: &[String], store: &mut S) -> Re
 
 /// The answer to a job.
 fn answer_to_job<S: Store>(alloc: Global, words: &Words<'_>, store: &mut S) -> Result<Answer, Stop>
+    requires { HasFewSizes (meant words.now) }
     ensures { MatchResult result
         (λ a. IsJobAnswer (meant words.now) (S.holds store.old) (answer a))
         (HasJobStopCause (meant words.now) (S.holds store.old) (S.faults store.old) (S.faults store.new)) }

@@ -1,5 +1,5 @@
 ghost use Rattle.std.specs.Prelude.{◌≡◌, ◌<◌, ℕ, List, IfOk, MatchResult, Ok, Err, length};
-ghost use Rattle.axe.specs.Parts.{meant, parts};
+ghost use Rattle.axe.specs.Parts.{HasFewSizes, meant, parts};
 ghost use Rattle.axe.specs.Answers.{IsFound};
 ghost use Rattle.axe.specs.Causes.{HasFindCause};
 
@@ -13,6 +13,7 @@ use std::alloc::Global;
 /// Finds the parts of a job: the class is read and parsed, its method is found, the specification is read and
 /// parsed, its function is found, and the shape is made; the first stage that fails decides.
 pub fn find<S: Store>(alloc: Global, words: &Words<'_>, store: &mut S) -> Result<Parts, Stop>
+    requires { HasFewSizes (meant words.now) }
     ensures found { MatchResult result
         (λ p. IsFound (meant words.now) (S.holds store.old) (Ok (parts p)))
         (HasFindCause (meant words.now) (S.holds store.old) (S.faults store.old) (S.faults store.new)) }

@@ -1,36 +1,24 @@
-ghost use Rattle.std.specs.Prelude.{◌≡◌, ◌≤◌, ◌<◌, ◌==◌, ◌&&◌, not, ℕ, length, Some, IfOk, slice_get};
-ghost use Rattle.axe_io.specs.Shapes.{ShapeParts};
-ghost use Rattle.axe.specs.Parts.{Gives, meant, parts};
-ghost use Rattle.axe.specs.Stages.{program_given, function_in, has_initialiser, is_plain, shape_fits, shape_in, formals_of, parts_stage};
+ghost use Rattle.std.specs.Prelude.{◌≤◌, ◌<◌, ℕ, length, Some, IfOk, slice_get};
+ghost use Rattle.axe.specs.Parts.{Gives, HasFewSizes, meant, parts};
+ghost use Rattle.axe.specs.Stages.{program_given, function_in, with_formals, shape_in, formals_of, parts_stage};
 
 use crate::parts::{Parts, Stop, Words};
-use axe_io::{OutPlace, Shape};
+use axe_io::Shape;
 use class_reader::{ClassFile, MethodId};
-use jvm_meaning::shape_of;
+use jvm_meaning::{ShapeError, shape_of};
 use spec_reader::{FunId, Program, SpecError, read_spec};
 use std::alloc::Global;
-use verdict_text::{Part, Refusal};
-
-/// The longest specification that this stage of the program reads, in bytes.
-const LONGEST_SPEC: usize = 4_096;
-
-fn not_built(part: Part) -> Stop
-    ensures { result ≡ Stop.Refused (Refusal.NotBuilt part) }
-{
-    Stop::Refused(Refusal::NotBuilt { part })
-}
+use verdict_text::Refusal;
 
 /// The program of some bytes.
 fn program_of(alloc: Global, bytes: &[u8]) -> Result<Program, Stop>
+    requires { length bytes.now ≤ 1048576 }
     ensures { Gives (λ p. p) result (program_given (Some bytes.now)) }
 {
-    if bytes.len() > LONGEST_SPEC {
-        return Err(not_built(Part::Spec));
-    }
     match read_spec(alloc, bytes) {
         Ok(program) => Ok(program),
         Err(SpecError::Memory) => Err(Stop::Memory),
-        Err(_) => Err(not_built(Part::Spec)),
+        Err(error) => Err(Stop::Refused(Refusal::Spec(error))),
     }
 }
 
@@ -41,22 +29,8 @@ fn function_in(words: &Words<'_>, program: &Program) -> Result<FunId, Stop>
 {
     match program.function(words.function.as_bytes()) {
         Some(function) => Ok(function),
-        None => Err(not_built(Part::Function)),
+        None => Err(Stop::Refused(Refusal::Function)),
     }
-}
-
-/// Whether the class has a static initialiser with Code.
-fn has_initialiser(class: &ClassFile) -> bool
-    ensures { result ≡ has_initialiser class.now }
-{
-    class.find(b"<clinit>", Some(b"()V")).count != 0
-}
-
-/// Whether the words give no sizes and observe what the method returns.
-fn is_plain(words: &Words<'_>) -> bool
-    ensures { result ≡ is_plain (meant words.now) }
-{
-    words.sizes.is_empty() && words.out == OutPlace::Returned
 }
 
 /// The shape of the method's inputs, where the function has as many formals.
@@ -67,19 +41,30 @@ fn shape_in(
     method: MethodId,
     formals: u32,
 ) -> Result<Shape, Stop>
-    requires { method.0 < length class.now.methods }
+    requires method { method.0 < length class.now.methods }
+    requires sizes { HasFewSizes (meant words.now) }
     ensures { Gives (λ s. s) result (shape_in (meant words.now) class.now method formals) }
 {
-    let Ok(shape) = shape_of(alloc, class, method) else {
-        return Err(Stop::Memory);
-    };
-    let Some(shape) = shape else {
-        return Err(not_built(Part::Shape));
-    };
-    if has_initialiser(class) || !is_plain(words) || formals as usize != shape.params().len() {
-        return Err(not_built(Part::Shape));
+    match shape_of(alloc, class, method, words.sizes, words.out) {
+        Ok(shape) => with_formals(shape, formals),
+        Err(ShapeError::Memory) => Err(Stop::Memory),
+        Err(error) => Err(Stop::Refused(Refusal::Shape(error))),
     }
-    Ok(shape)
+}
+
+/// The shape, where the function has a formal for each parameter.
+fn with_formals(shape: Shape, formals: u32) -> Result<Shape, Stop>
+    ensures { Gives (λ s. s) result (with_formals formals shape) }
+{
+    let parameters = shape.params().len() as u64;
+    if u64::from(formals) == parameters {
+        Ok(shape)
+    } else {
+        Err(Stop::Refused(Refusal::Formals {
+            formals,
+            parameters,
+        }))
+    }
 }
 
 /// The parts of a job whose class and method were found, with the specification of some bytes.
@@ -91,7 +76,9 @@ pub fn parts_of(
     method: MethodId,
     bytes: &[u8],
 ) -> Result<Parts, Stop>
-    requires { method.0 < length class.methods }
+    requires method { method.0 < length class.methods }
+    requires sizes { HasFewSizes (meant words.now) }
+    requires short { length bytes.now ≤ 1048576 }
     ensures within { IfOk result (λ p. (p.method.0 < length p.class.methods) × (p.function.0 < length p.program.functions)) }
     ensures parts { Gives parts result (parts_stage (meant words.now) (class, method) (Some bytes.now)) }
 {

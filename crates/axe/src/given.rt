@@ -5,7 +5,7 @@ ghost use Rattle.axe.specs.Causes.{HasGivenCause, refused_long};
 use crate::parts::Stop;
 use axe_io::{Store, StoreError};
 use std::alloc::Global;
-use verdict_text::{Part, Refusal};
+use verdict_text::Refusal;
 
 /// The longest class or specification in bytes.
 const LONGEST: usize = 1_048_576;
@@ -23,7 +23,7 @@ fn too_long(named: Named) -> Refusal
 {
     match named {
         Named::Class => Refusal::ClassLong,
-        Named::Spec => Refusal::NotBuilt { part: Part::Spec },
+        Named::Spec => Refusal::SpecLong,
     }
 }
 

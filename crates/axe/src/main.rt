@@ -10,6 +10,8 @@ mod function;
 mod given;
 mod method;
 mod parts;
+#[cfg(test)]
+mod program_tests;
 mod run;
 mod status;
 #[cfg(test)]

@@ -8,7 +8,7 @@ use std::test::Fail;
 use std::thread::Threads;
 
 /// Adds a Utf8 entry of a constant pool.
-fn push_text(out: &mut Vec<u8>, text: &[u8]) -> Result<(), Memory> {
+pub(crate) fn push_text(out: &mut Vec<u8>, text: &[u8]) -> Result<(), Memory> {
     out.push(1)?;
     out.push(0)?;
     out.push((text.len() % 256) as u8)?;
@@ -63,7 +63,7 @@ const XOR: &[u8] = &[0x1a, 0x1b, 0x82, 0x91, 0xac];
 const PLUS_ONE: &[u8] = &[0x1a, 0x10, 0x01, 0x60, 0xac];
 
 /// What a run of words, which are separated by one space, ends with and writes.
-fn outcome<R: Threads + Wait + Sync>(
+pub(crate) fn outcome<R: Threads + Wait + Sync>(
     rt: &R,
     alloc: Global,
     words: &str,
@@ -126,13 +126,13 @@ fn jobs_and_their_texts(rt: HostRuntime) -> Result<(), Fail> {
             "different\nin 0 = 00\nmethod = 00000001\nspec = 00000002\n",
         ),
         (
-            "opcode_without_a_step",
+            "opcode_outside_the_profile",
             "prove C f S f",
             b"(B)I",
-            &[0x1a, 4, 0x60, 0xac],
+            &[0x1a, 11, 0x60, 0xac],
             plus_two,
             Status::Refused,
-            "refused: instruction: opcode 4 in f(B)I at 1\nin 0 = 00\n",
+            "refused: instruction: opcode 11 in f(B)I at 1\nin 0 = 00\n",
         ),
         (
             "constant_seven",
@@ -186,7 +186,7 @@ fn jobs_and_their_texts(rt: HostRuntime) -> Result<(), Fail> {
             XOR,
             xor,
             Status::Refused,
-            "refused: not built: function\n",
+            "refused: function: not found\n",
         ),
         (
             "too_few_formals",
@@ -195,16 +195,16 @@ fn jobs_and_their_texts(rt: HostRuntime) -> Result<(), Fail> {
             XOR,
             plus_two,
             Status::Refused,
-            "refused: not built: shape\n",
+            "refused: shape: formals 1 parameters 2\n",
         ),
         (
             "width_of_65",
-            "prove C f S f",
+            "prove C f S f --cases 16",
             b"(BB)B",
             XOR,
             b"(defun f (x y) (bvxor 65 x y))",
             Status::Refused,
-            "refused: not built: spec\n",
+            "refused: form: bad width at 15\nin 0 = 00\nin 1 = 00\n",
         ),
     ];
     for (name, words, desc, code, spec, status, text) in cases {

@@ -26,6 +26,8 @@ pub record Job : Type 0 where
   pub function : FunId
   pub shape : ShapeParts
   pub steps : ℕ
+  pub frames : ℕ
+  pub elements : ℕ
   pub depth : ℕ
   pub work : ℕ
 
@@ -34,7 +36,7 @@ widths_of job = leaf_widths job.shape.params
 
 -- the end of the method's run on an input
 abbrev pub method_end : Job → List ℕ → End
-method_end job input = run_end job.class job.method job.shape input job.steps
+method_end job input = run_end job.class job.method job.shape input job.steps job.frames job.elements
 
 -- the end of the function's evaluation on an input
 abbrev pub spec_end : Job → List ℕ → SpecEnd

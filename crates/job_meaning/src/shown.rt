@@ -48,7 +48,15 @@ pub fn shown_at(
     ensures { IfOk result (λ shown. shown ≡ shown_at (meant job.now) input.now) }
 {
     let budgets = job.budgets;
-    let end = machine.run(job.class, job.method, job.shape, input, budgets.steps)?;
+    let end = machine.run(
+        job.class,
+        job.method,
+        job.shape,
+        input,
+        budgets.steps,
+        budgets.frames,
+        budgets.elements,
+    )?;
     let args = args_of(alloc, job.shape, input)?;
     let spec = eval(
         alloc,

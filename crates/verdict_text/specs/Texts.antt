@@ -23,12 +23,14 @@ use Rattle.jvm_meaning.specs.declared.value.Seen.{Seen}
 use Rattle.jvm_meaning.specs.declared.value.Seen.TheVariants as seen
 use Rattle.jvm_meaning.specs.declared.value.End.{End}
 use Rattle.jvm_meaning.specs.declared.value.End.TheVariants as run
+use Rattle.jvm_meaning.specs.declared.descriptor.ShapeError.{ShapeError}
+use Rattle.jvm_meaning.specs.declared.descriptor.ShapeError.TheVariants as shape
+use Rattle.spec_reader.specs.declared.error.SpecError.{SpecError}
+use Rattle.spec_reader.specs.declared.error.SpecError.TheVariants as spec
 use Rattle.spec_meaning.specs.declared.value.Value.{Value}
 use Rattle.spec_meaning.specs.declared.value.Value.TheVariants as value
 use Rattle.spec_meaning.specs.declared.value.Why.{Why}
 use Rattle.spec_meaning.specs.declared.value.Why.TheVariants as why
-use Rattle.verdict_text.specs.declared.verdict.Part.{Part}
-use Rattle.verdict_text.specs.declared.verdict.Part.TheVariants as part
 use Rattle.verdict_text.specs.declared.verdict.Refusal.{Refusal}
 use Rattle.verdict_text.specs.declared.verdict.Refusal.TheVariants as refusal
 use Rattle.verdict_text.specs.declared.verdict.Verdict.{Verdict}
@@ -144,10 +146,20 @@ words_text (words_error.BadSizes at) = joined (codes "bad sizes at " ∷ decimal
 words_text words_error.BadOut = codes "bad out"
 words_text words_error.Memory = []
 
-abbrev pub part_name : Part → List ℕ
-part_name part.Spec = codes "spec"
-part_name part.Function = codes "function"
-part_name part.Shape = codes "shape"
+abbrev pub spec_text : SpecError → List ℕ
+spec_text (spec.BadToken at) = joined (codes "bad token at " ∷ decimal at ∷ [])
+spec_text (spec.Unclosed at) = joined (codes "unclosed at " ∷ decimal at ∷ [])
+spec_text (spec.BadForm at) = joined (codes "bad form at " ∷ decimal at ∷ [])
+spec_text (spec.UnboundName at) = joined (codes "unbound name at " ∷ decimal at ∷ [])
+spec_text (spec.Duplicate at) = joined (codes "duplicate at " ∷ decimal at ∷ [])
+spec_text (spec.TooDeep at) = joined (codes "too deep at " ∷ decimal at ∷ [])
+spec_text spec.Memory = []
+
+abbrev pub shape_text : ShapeError → List ℕ
+shape_text (shape.BadType at) = joined (codes "type at " ∷ decimal at ∷ [])
+shape_text (shape.Sizes wanted given) = joined (codes "sizes wanted " ∷ decimal wanted ∷ codes " given " ∷ decimal given ∷ [])
+shape_text shape.Out = codes "out"
+shape_text shape.Memory = []
 
 abbrev pub budget_name : Budget → List ℕ
 budget_name budget.Steps = codes "steps"
@@ -173,11 +185,15 @@ shown_input shape b inputs = []
 -- ---- verdicts
 
 abbrev pub refusal_text : Option ShapeParts → Option Contents → Refusal → List ℕ
-refusal_text shape c (refusal.NotBuilt part) = joined (codes "refused: not built: " ∷ part_name part ∷ codes "\n" ∷ [])
 refusal_text shape c (refusal.Words error) = joined (codes "refused: words: " ∷ words_text error ∷ codes "\n" ∷ [])
 refusal_text shape c refusal.ClassLong = codes "refused: class: too long\n"
 refusal_text shape c (refusal.Class error) = joined (codes "refused: class: " ∷ class_text error ∷ codes "\n" ∷ [])
 refusal_text shape c (refusal.Method count) = joined (codes "refused: method: " ∷ decimal count ∷ codes " found\n" ∷ [])
+refusal_text shape c refusal.SpecLong = codes "refused: spec: too long\n"
+refusal_text shape c (refusal.Spec error) = joined (codes "refused: spec: " ∷ spec_text error ∷ codes "\n" ∷ [])
+refusal_text shape c refusal.Function = codes "refused: function: not found\n"
+refusal_text shape c (refusal.Shape error) = joined (codes "refused: shape: " ∷ shape_text error ∷ codes "\n" ∷ [])
+refusal_text shape c (refusal.Formals formals parameters) = joined (codes "refused: shape: formals " ∷ decimal formals ∷ codes " parameters " ∷ decimal parameters ∷ codes "\n" ∷ [])
 refusal_text shape c (refusal.Instruction reason id pc input) = joined (codes "refused: instruction: " ∷ reason_text reason ∷ codes " in " ∷ place c id pc ∷ codes "\n" ∷ input_text shape input ∷ [])
 refusal_text shape c (refusal.Form why at input) = joined (codes "refused: form: " ∷ why_text why ∷ codes " at " ∷ decimal at ∷ codes "\n" ∷ input_text shape input ∷ [])
 

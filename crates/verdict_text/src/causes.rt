@@ -1,13 +1,13 @@
 ghost use Rattle.std.specs.Prelude.{◌≡◌, ℕ, IfOk, string_bytes, codes};
-ghost use Rattle.verdict_text.specs.Texts.{throw_name, reason_text, why_text, class_text, option_name, words_text, part_name, budget_name};
+ghost use Rattle.verdict_text.specs.Texts.{throw_name, reason_text, why_text, class_text, option_name, words_text, spec_text, shape_text, budget_name};
 
 use crate::names::name_text;
-use crate::verdict::Part;
 use axe_io::Budget;
 use axe_words::{NumberWord, WordsError};
 use class_reader::ClassError;
-use jvm_meaning::{Reason, Throw};
+use jvm_meaning::{Reason, ShapeError, Throw};
 use spec_meaning::Why;
+use spec_reader::SpecError;
 use std::alloc::{AllocError, Global};
 
 /// The name of what is thrown.
@@ -113,14 +113,32 @@ pub fn words_text(alloc: Global, error: &WordsError) -> Result<String, AllocErro
     }
 }
 
-/// The name of a part that isn't taken yet.
-pub fn part_name(part: Part) -> &'static str
-    ensures { result.now ≡ part_name part }
+/// Why bytes are no specification; want of memory is no such reason, and has no text.
+pub fn spec_text(alloc: Global, error: SpecError) -> Result<String, AllocError>
+    ensures { IfOk result (λ text. string_bytes text ≡ spec_text error) }
 {
-    match part {
-        Part::Spec => "spec",
-        Part::Function => "function",
-        Part::Shape => "shape",
+    match error {
+        SpecError::BadToken { at } => format!(in alloc; "bad token at {at}"),
+        SpecError::Unclosed { at } => format!(in alloc; "unclosed at {at}"),
+        SpecError::BadForm { at } => format!(in alloc; "bad form at {at}"),
+        SpecError::UnboundName { at } => format!(in alloc; "unbound name at {at}"),
+        SpecError::Duplicate { at } => format!(in alloc; "duplicate at {at}"),
+        SpecError::TooDeep { at } => format!(in alloc; "too deep at {at}"),
+        SpecError::Memory => Ok(String::new(alloc)),
+    }
+}
+
+/// Why a method has no shape; want of memory is no such reason, and has no text.
+pub fn shape_text(alloc: Global, error: ShapeError) -> Result<String, AllocError>
+    ensures { IfOk result (λ text. string_bytes text ≡ shape_text error) }
+{
+    match error {
+        ShapeError::BadType { at } => format!(in alloc; "type at {at}"),
+        ShapeError::Sizes { wanted, given } => {
+            format!(in alloc; "sizes wanted {wanted} given {given}")
+        }
+        ShapeError::Out => String::from_str(alloc, "out"),
+        ShapeError::Memory => Ok(String::new(alloc)),
     }
 }
 

@@ -16,4 +16,4 @@ mod words;
 
 pub use text::verdict_text;
 pub use trying::exhaust;
-pub use verdict::{Part, Refusal, Verdict};
+pub use verdict::{Refusal, Verdict};

@@ -1,7 +1,9 @@
 ghost use Rattle.std.specs.Prelude.{◌≡◌, ◌≤◌, ℕ, IfOk, string_bytes, codes, option_map, None};
 ghost use Rattle.verdict_text.specs.Texts.{text_of, refusal_text, shown_input, result_width};
 
-use crate::causes::{budget_name, class_text, part_name, reason_text, why_text, words_text};
+use crate::causes::{
+    budget_name, class_text, reason_text, shape_text, spec_text, why_text, words_text,
+};
 use crate::inputs::input_text;
 use crate::results::{end_text, place_text, value_text};
 use crate::verdict::{Refusal, Verdict};
@@ -100,10 +102,6 @@ fn refusal_text(
     ensures { IfOk result (λ text. string_bytes text ≡ refusal_text (option_map (λ s. s.now) shape.entry) (option_map (λ c. c.now) class.entry) refusal.now) }
 {
     match refusal {
-        Refusal::NotBuilt { part } => {
-            let name = part_name(*part);
-            format!(in alloc; "refused: not built: {name}\n")
-        }
         Refusal::Words(error) => {
             let cause = words_text(alloc, error)?;
             format!(in alloc; "refused: words: {cause}\n")
@@ -116,6 +114,23 @@ fn refusal_text(
         Refusal::Method { count } => {
             let count = *count;
             format!(in alloc; "refused: method: {count} found\n")
+        }
+        Refusal::SpecLong => String::from_str(alloc, "refused: spec: too long\n"),
+        Refusal::Spec(error) => {
+            let cause = spec_text(alloc, *error)?;
+            format!(in alloc; "refused: spec: {cause}\n")
+        }
+        Refusal::Function => String::from_str(alloc, "refused: function: not found\n"),
+        Refusal::Shape(error) => {
+            let cause = shape_text(alloc, *error)?;
+            format!(in alloc; "refused: shape: {cause}\n")
+        }
+        Refusal::Formals {
+            formals,
+            parameters,
+        } => {
+            let (formals, parameters) = (*formals, *parameters);
+            format!(in alloc; "refused: shape: formals {formals} parameters {parameters}\n")
         }
         Refusal::Instruction {
             reason,

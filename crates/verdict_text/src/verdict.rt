@@ -1,24 +1,13 @@
 use axe_io::{Input, Spent};
 use axe_words::WordsError;
 use class_reader::{ClassError, MethodId};
-use jvm_meaning::{End, Reason};
+use jvm_meaning::{End, Reason, ShapeError};
 use spec_meaning::{Value, Why};
-
-/// A part of a job that this stage of the program doesn't take yet.
-#[derive(Clone, Copy, Debug, PartialEq, Eq)]
-pub enum Part {
-    Spec,
-    Function,
-    Shape,
-}
+use spec_reader::SpecError;
 
 /// Why a job is refused.
 #[derive(Debug, Drop)]
 pub enum Refusal {
-    /// The job is outside this stage of the program, by this part.
-    NotBuilt {
-        part: Part,
-    },
     /// The words mean no job.
     Words(WordsError),
     /// The class has more than 1,048,576 bytes.
@@ -28,6 +17,19 @@ pub enum Refusal {
     /// So many static methods with Code have the name and, where one is given, the descriptor; it isn't one.
     Method {
         count: u32,
+    },
+    /// The specification has more than 1,048,576 bytes.
+    SpecLong,
+    /// The bytes are no specification.
+    Spec(SpecError),
+    /// No function has the name.
+    Function,
+    /// The method's descriptor, the sizes and the observed place don't go together.
+    Shape(ShapeError),
+    /// The function has another number of formals than the method has parameters.
+    Formals {
+        formals: u32,
+        parameters: u64,
     },
     /// On this input the run is refused at this place.
     Instruction {

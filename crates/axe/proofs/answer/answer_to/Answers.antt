@@ -1,7 +1,11 @@
 use Rattle.std.proofs.Common.{map, string_bytes}
 use Rattle.axe.specs.Parts.{meant}
+use Rattle.axe.proofs.FewSizes.{few_sizes}
 use Rattle.axe.proofs.Finding.{right_for}
 use Rattle.axe.proofs.answer.answer_to.Goals as goal
+
+pub answer_to_job-requires : goal.answer_to_job-requires
+answer_to_job-requires g c = few_sizes (map string_bytes c.args.words.now) c.in-Ok.job (meant c.words_of.result) c.in-Ok.ensures.job c.words_of.ensures
 
 pub returns-in-Ok : goal.returns-in-Ok
 returns-in-Ok g c =
