@@ -3,8 +3,17 @@ pub mod ChoicesLaws
 pub mod ComparisonsLaws
 pub mod CutsLaws
 pub mod EqualLaws
+pub mod ExtensionLaws
+pub mod FoldingLaws
+pub mod Found
+pub mod GatherLaws
+pub mod JointLaws
+pub mod MaskLaws
+pub mod NestLaws
 pub mod NeutralLaws
 pub mod OppositeLaws
 pub mod OrderLaws
+pub mod PartLaws
+pub mod RotationLaws
 pub mod Viewing
 pub mod WordLaws

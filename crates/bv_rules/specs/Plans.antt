@@ -1,8 +1,8 @@
 -- Views of nodes, and plans: short lists of nodes that stand for a viewed node.
-use Rattle.std.specs.Prelude.{◌≡◌, ℕ, ◌+◌, ◌*◌, ◌≤◌, cond, nat_lt, unwrap_or, Option, Some, None, List, [], ◌∷◌, ◌++◌, take, replicate, slice_get, slice_index, slice_index_or, IsSome, ◌-◌}
+use Rattle.std.specs.Prelude.{◌≡◌, ◌⊎◌, ℕ, ◌+◌, ◌*◌, ◌≤◌, cond, nat_lt, unwrap_or, Option, Some, None, List, [], ◌∷◌, ◌++◌, take, replicate, slice_get, slice_index, slice_index_or, IsSome, ◌-◌}
 use Rattle.dag.specs.declared.node.NodeId.{NodeId}
 use Rattle.dag.specs.declared.node.Node.{Node}
-use Rattle.dag.specs.declared.node.Node.TheVariants.{Const, Slice, Cat}
+use Rattle.dag.specs.declared.node.Node.TheVariants.{Const, And, Or, Neg, Ite, Slice, Cat, Sext}
 use Rattle.dag.specs.declared.value.Word.{Word}
 use Rattle.dag.specs.Node.{form, children, width_by, node_value, kind_value, kind_charge, first, second, third}
 use Rattle.dag.specs.Graph.{Graph, AreValues, fits_width, leaves_of, charge_in}
@@ -140,3 +140,63 @@ moved_up w a k = three_plan (step (Const k 0) (New 0) (New 0) (New 0)) (step (Sl
 -- and moved down: zeros above its upper bits
 abbrev pub moved_down : ℕ → NodeId → ℕ → Plan
 moved_down w a k = three_plan (step (Const k 0) (New 0) (New 0) (New 0)) (step (Slice (w - 1) k a) (Old a) (New 0) (New 0)) (step (Cat a a) (New 0) (New 1) (New 0))
+
+-- a node of the graph is a constant of this value
+abbrev pub IsConstAt : Graph → NodeId → ℕ → Type 0
+IsConstAt g a v = (w : ℕ) × (slice_get g.nodes a.0 ≡ Some (Const w v))
+
+-- of two nodes one is a constant of this value, and the other one is the rest
+abbrev pub IsConstBeside : Graph → NodeId → NodeId → NodeId → ℕ → Type 0
+IsConstBeside g a b rest v = ((rest ≡ a) × IsConstAt g b v) ⊎ ((rest ≡ b) × IsConstAt g a v)
+
+-- of two nodes one is x, and the other one is the rest
+abbrev pub IsBeside : NodeId → NodeId → NodeId → NodeId → Type 0
+IsBeside a b x rest = ((a ≡ x) × (rest ≡ b)) ⊎ ((b ≡ x) × (rest ≡ a))
+
+-- a joint whose lower part is k zeros
+abbrev pub HasZerosBelow : Graph → NodeId → NodeId → ℕ → Type 0
+HasZerosBelow g a high k = (zeros : NodeId) × (slice_get g.nodes a.0 ≡ Some (Cat high zeros)) × IsConstAt g zeros 0 × (slice_get g.widths zeros.0 ≡ Some k)
+
+-- a joint whose upper part is zeros and whose lower part has k bits
+abbrev pub HasZerosAbove : Graph → NodeId → NodeId → ℕ → Type 0
+HasZerosAbove g a low k = (zeros : NodeId) × (slice_get g.nodes a.0 ≡ Some (Cat zeros low)) × IsConstAt g zeros 0 × (slice_get g.widths low.0 ≡ Some k)
+
+-- two nodes that hold a word's upper and its lower part, with zeros where the other one has its part
+abbrev pub AreParts : Graph → NodeId → NodeId → NodeId → NodeId → Type 0
+AreParts g a b high low = (k : ℕ) × ((HasZerosBelow g a high k × HasZerosAbove g b low k) ⊎ (HasZerosBelow g b high k × HasZerosAbove g a low k))
+
+-- an operation on a node of the graph and a constant
+abbrev pub with_constant : Node → NodeId → ℕ → ℕ → Plan
+with_constant n x w v = two_plan (step (Const w v) (New 0) (New 0) (New 0)) (step n (Old x) (New 0) (New 0))
+
+-- the joint of two nodes
+abbrev pub joined : NodeId → NodeId → Plan
+joined high low = one_plan (step (Cat high low) (Old high) (Old low) (New 0))
+
+-- bits of a word, extended to a width
+abbrev pub extended_bits : ℕ → ℕ → ℕ → NodeId → Plan
+extended_bits w h l a = two_plan (step (Slice h l a) (Old a) (New 0) (New 0)) (step (Sext w a) (New 0) (New 0) (New 0))
+
+-- a word below so many zeros
+abbrev pub widened : ℕ → NodeId → Plan
+widened z a = two_plan (step (Const z 0) (New 0) (New 0) (New 0)) (step (Cat a a) (New 0) (Old a) (New 0))
+
+-- the lowest k bits of a word below so many zeros
+abbrev pub lowest : ℕ → ℕ → NodeId → Plan
+lowest z k a = three_plan (step (Const z 0) (New 0) (New 0) (New 0)) (step (Slice (k - 1) 0 a) (Old a) (New 0) (New 0)) (step (Cat a a) (New 0) (New 1) (New 0))
+
+-- a above the joint of b and c
+abbrev pub regrouped : NodeId → NodeId → NodeId → Plan
+regrouped a b c = two_plan (step (Cat b c) (Old b) (Old c) (New 0)) (step (Cat a a) (Old a) (New 0) (New 0))
+
+-- the lowest bits of x above bits of y
+abbrev pub cut_parts : ℕ → NodeId → ℕ → ℕ → NodeId → Plan
+cut_parts upper x h l y = three_plan (step (Slice upper 0 x) (Old x) (New 0) (New 0)) (step (Slice h l y) (Old y) (New 0) (New 0)) (step (Cat x y) (New 0) (New 1) (New 0))
+
+-- x | y, and the negation of x & y
+abbrev pub IsUnionLessCommon : Graph → NodeId → NodeId → NodeId → NodeId → Type 0
+IsUnionLessCommon g union less x y = (slice_get g.nodes union.0 ≡ Some (Or x y)) × ((common p q : NodeId) × (slice_get g.nodes less.0 ≡ Some (Neg common)) × (slice_get g.nodes common.0 ≡ Some (And p q)) × IsBeside p q x y)
+
+-- one choice
+abbrev pub chosen : NodeId → NodeId → NodeId → Plan
+chosen a b c = one_plan (step (Ite a b c) (Old a) (Old b) (Old c))

@@ -5,10 +5,30 @@ ghost use Rattle.bv_rules.specs.Plans.{IsView, KeepsIf};
 use crate::gate::checked;
 use crate::plan::{NodeView, Plan, const_of, is_const};
 use bv_words::mask;
+use case_tables::first_of;
 use dag::{Dag, Node};
 
+/// The first of these rules that applies.
+pub(crate) fn first(dag: &Dag, view: NodeView) -> Option<Plan>
+    requires { IsView dag.now view.node view.children }
+    ensures { KeepsIf dag.now view.node result }
+{
+    first_of!(
+        and_zero(dag, view),
+        zero_and(dag, view),
+        times_zero(dag, view),
+        zero_times(dag, view),
+        or_ones(dag, view),
+        ones_or(dag, view),
+        zero_shl(dag, view),
+        zero_shr(dag, view),
+        shl_past(dag, view),
+        shr_past(dag, view)
+    )
+}
+
 /// `x & 0` is 0.
-pub(crate) fn and_zero(dag: &Dag, view: NodeView) -> Option<Plan>
+fn and_zero(dag: &Dag, view: NodeView) -> Option<Plan>
     requires { IsView dag.now view.node view.children }
     ensures { KeepsIf dag.now view.node result }
 {
@@ -24,7 +44,7 @@ pub(crate) fn and_zero(dag: &Dag, view: NodeView) -> Option<Plan>
 }
 
 /// `0 & x` is 0.
-pub(crate) fn zero_and(dag: &Dag, view: NodeView) -> Option<Plan>
+fn zero_and(dag: &Dag, view: NodeView) -> Option<Plan>
     requires { IsView dag.now view.node view.children }
     ensures { KeepsIf dag.now view.node result }
 {
@@ -40,7 +60,7 @@ pub(crate) fn zero_and(dag: &Dag, view: NodeView) -> Option<Plan>
 }
 
 /// `x * 0` is 0.
-pub(crate) fn times_zero(dag: &Dag, view: NodeView) -> Option<Plan>
+fn times_zero(dag: &Dag, view: NodeView) -> Option<Plan>
     requires { IsView dag.now view.node view.children }
     ensures { KeepsIf dag.now view.node result }
 {
@@ -56,7 +76,7 @@ pub(crate) fn times_zero(dag: &Dag, view: NodeView) -> Option<Plan>
 }
 
 /// `0 * x` is 0.
-pub(crate) fn zero_times(dag: &Dag, view: NodeView) -> Option<Plan>
+fn zero_times(dag: &Dag, view: NodeView) -> Option<Plan>
     requires { IsView dag.now view.node view.children }
     ensures { KeepsIf dag.now view.node result }
 {
@@ -72,7 +92,7 @@ pub(crate) fn zero_times(dag: &Dag, view: NodeView) -> Option<Plan>
 }
 
 /// `x | -1` is -1.
-pub(crate) fn or_ones(dag: &Dag, view: NodeView) -> Option<Plan>
+fn or_ones(dag: &Dag, view: NodeView) -> Option<Plan>
     requires { IsView dag.now view.node view.children }
     ensures { KeepsIf dag.now view.node result }
 {
@@ -89,7 +109,7 @@ pub(crate) fn or_ones(dag: &Dag, view: NodeView) -> Option<Plan>
 }
 
 /// `-1 | x` is -1.
-pub(crate) fn ones_or(dag: &Dag, view: NodeView) -> Option<Plan>
+fn ones_or(dag: &Dag, view: NodeView) -> Option<Plan>
     requires { IsView dag.now view.node view.children }
     ensures { KeepsIf dag.now view.node result }
 {
@@ -106,7 +126,7 @@ pub(crate) fn ones_or(dag: &Dag, view: NodeView) -> Option<Plan>
 }
 
 /// 0 moved up is 0.
-pub(crate) fn zero_shl(dag: &Dag, view: NodeView) -> Option<Plan>
+fn zero_shl(dag: &Dag, view: NodeView) -> Option<Plan>
     requires { IsView dag.now view.node view.children }
     ensures { KeepsIf dag.now view.node result }
 {
@@ -122,7 +142,7 @@ pub(crate) fn zero_shl(dag: &Dag, view: NodeView) -> Option<Plan>
 }
 
 /// 0 moved down is 0.
-pub(crate) fn zero_shr(dag: &Dag, view: NodeView) -> Option<Plan>
+fn zero_shr(dag: &Dag, view: NodeView) -> Option<Plan>
     requires { IsView dag.now view.node view.children }
     ensures { KeepsIf dag.now view.node result }
 {
@@ -138,7 +158,7 @@ pub(crate) fn zero_shr(dag: &Dag, view: NodeView) -> Option<Plan>
 }
 
 /// A shift by a constant from the width on is 0.
-pub(crate) fn shl_past(dag: &Dag, view: NodeView) -> Option<Plan>
+fn shl_past(dag: &Dag, view: NodeView) -> Option<Plan>
     requires { IsView dag.now view.node view.children }
     ensures { KeepsIf dag.now view.node result }
 {
@@ -155,7 +175,7 @@ pub(crate) fn shl_past(dag: &Dag, view: NodeView) -> Option<Plan>
 }
 
 /// A shift by a constant from the width on is 0.
-pub(crate) fn shr_past(dag: &Dag, view: NodeView) -> Option<Plan>
+fn shr_past(dag: &Dag, view: NodeView) -> Option<Plan>
     requires { IsView dag.now view.node view.children }
     ensures { KeepsIf dag.now view.node result }
 {

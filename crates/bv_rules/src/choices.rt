@@ -1,13 +1,34 @@
 //! Choices.
 
-ghost use Rattle.bv_rules.specs.Plans.{IsView, KeepsIf};
+ghost use Rattle.std.specs.Prelude.{◌≡◌};
+ghost use Rattle.bv_rules.specs.Plans.{IsView, KeepsIf, chosen as chosen_plan};
 
 use crate::gate::checked;
 use crate::plan::{NodeView, Plan, PlanId, is_const, step};
-use dag::{Dag, Node};
+use case_tables::first_of;
+use dag::{Dag, Node, NodeId};
+
+/// The first of these rules that applies.
+pub(crate) fn first(dag: &Dag, view: NodeView) -> Option<Plan>
+    requires { IsView dag.now view.node view.children }
+    ensures { KeepsIf dag.now view.node result }
+{
+    first_of!(
+        ite_true(dag, view),
+        ite_false(dag, view),
+        ite_same(dag, view),
+        ite_not(dag, view),
+        ite_bit(dag, view),
+        ite_bit_turned(dag, view),
+        ite_both(dag, view),
+        ite_either(dag, view),
+        ite_then_again(dag, view),
+        ite_else_again(dag, view)
+    )
+}
 
 /// A choice by 1 is its second child.
-pub(crate) fn ite_true(dag: &Dag, view: NodeView) -> Option<Plan>
+fn ite_true(dag: &Dag, view: NodeView) -> Option<Plan>
     requires { IsView dag.now view.node view.children }
     ensures { KeepsIf dag.now view.node result }
 {
@@ -22,7 +43,7 @@ pub(crate) fn ite_true(dag: &Dag, view: NodeView) -> Option<Plan>
 }
 
 /// A choice by 0 is its third child.
-pub(crate) fn ite_false(dag: &Dag, view: NodeView) -> Option<Plan>
+fn ite_false(dag: &Dag, view: NodeView) -> Option<Plan>
     requires { IsView dag.now view.node view.children }
     ensures { KeepsIf dag.now view.node result }
 {
@@ -37,7 +58,7 @@ pub(crate) fn ite_false(dag: &Dag, view: NodeView) -> Option<Plan>
 }
 
 /// A choice between equal nodes is that node.
-pub(crate) fn ite_same(dag: &Dag, view: NodeView) -> Option<Plan>
+fn ite_same(dag: &Dag, view: NodeView) -> Option<Plan>
     requires { IsView dag.now view.node view.children }
     ensures { KeepsIf dag.now view.node result }
 {
@@ -52,7 +73,7 @@ pub(crate) fn ite_same(dag: &Dag, view: NodeView) -> Option<Plan>
 }
 
 /// A choice by a negated condition chooses the other way.
-pub(crate) fn ite_not(dag: &Dag, view: NodeView) -> Option<Plan>
+fn ite_not(dag: &Dag, view: NodeView) -> Option<Plan>
     requires { IsView dag.now view.node view.children }
     ensures { KeepsIf dag.now view.node result }
 {
@@ -63,17 +84,11 @@ pub(crate) fn ite_not(dag: &Dag, view: NodeView) -> Option<Plan>
     let Node::Not(t) = child else {
         return None;
     };
-    let plan = Plan::one(step(
-        Node::Ite(t, c, b),
-        PlanId::Old(t),
-        PlanId::Old(c),
-        PlanId::Old(b),
-    ));
-    checked(dag, view.node, plan)
+    checked(dag, view.node, chosen(t, c, b))
 }
 
 /// A choice of 1 and 0 by a bit is that bit.
-pub(crate) fn ite_bit(dag: &Dag, view: NodeView) -> Option<Plan>
+fn ite_bit(dag: &Dag, view: NodeView) -> Option<Plan>
     requires { IsView dag.now view.node view.children }
     ensures { KeepsIf dag.now view.node result }
 {
@@ -85,4 +100,102 @@ pub(crate) fn ite_bit(dag: &Dag, view: NodeView) -> Option<Plan>
     } else {
         None
     }
+}
+
+/// A choice of 0 and 1 by a bit is that bit turned.
+fn ite_bit_turned(dag: &Dag, view: NodeView) -> Option<Plan>
+    requires { IsView dag.now view.node view.children }
+    ensures { KeepsIf dag.now view.node result }
+{
+    let Node::Ite(a, b, _) = view.node else {
+        return None;
+    };
+    let width = dag.width_at(b)?;
+    if width == 1 && is_const(view.children[1], 0) && is_const(view.children[2], 1) {
+        checked(dag, view.node, Plan::one_old(Node::Not(a), a))
+    } else {
+        None
+    }
+}
+
+/// A choice of a bit and 0 is both: `c && d`.
+fn ite_both(dag: &Dag, view: NodeView) -> Option<Plan>
+    requires { IsView dag.now view.node view.children }
+    ensures { KeepsIf dag.now view.node result }
+{
+    let Node::Ite(a, b, _) = view.node else {
+        return None;
+    };
+    let width = dag.width_at(b)?;
+    if width == 1 && is_const(view.children[2], 0) {
+        checked(dag, view.node, Plan::two_old(Node::And(a, b), a, b))
+    } else {
+        None
+    }
+}
+
+/// A choice of 1 and a bit is either: `c || d`.
+fn ite_either(dag: &Dag, view: NodeView) -> Option<Plan>
+    requires { IsView dag.now view.node view.children }
+    ensures { KeepsIf dag.now view.node result }
+{
+    let Node::Ite(a, _, c) = view.node else {
+        return None;
+    };
+    let width = dag.width_at(c)?;
+    if width == 1 && is_const(view.children[1], 1) {
+        checked(dag, view.node, Plan::two_old(Node::Or(a, c), a, c))
+    } else {
+        None
+    }
+}
+
+/// `c ? (c ? x : y) : z` is `c ? x : z`.
+fn ite_then_again(dag: &Dag, view: NodeView) -> Option<Plan>
+    requires { IsView dag.now view.node view.children }
+    ensures { KeepsIf dag.now view.node result }
+{
+    let Node::Ite(a, _, c) = view.node else {
+        return None;
+    };
+    let child = view.children[1]?;
+    let Node::Ite(again, x, _) = child else {
+        return None;
+    };
+    if again == a {
+        checked(dag, view.node, chosen(a, x, c))
+    } else {
+        None
+    }
+}
+
+/// `c ? x : (c ? y : z)` is `c ? x : z`.
+fn ite_else_again(dag: &Dag, view: NodeView) -> Option<Plan>
+    requires { IsView dag.now view.node view.children }
+    ensures { KeepsIf dag.now view.node result }
+{
+    let Node::Ite(a, b, _) = view.node else {
+        return None;
+    };
+    let child = view.children[2]?;
+    let Node::Ite(again, _, z) = child else {
+        return None;
+    };
+    if again == a {
+        checked(dag, view.node, chosen(a, b, z))
+    } else {
+        None
+    }
+}
+
+/// The plan of one choice.
+fn chosen(a: NodeId, b: NodeId, c: NodeId) -> Plan
+    ensures { result ≡ chosen_plan a b c }
+{
+    Plan::one(step(
+        Node::Ite(a, b, c),
+        PlanId::Old(a),
+        PlanId::Old(b),
+        PlanId::Old(c),
+    ))
 }

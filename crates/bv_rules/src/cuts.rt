@@ -5,10 +5,28 @@ ghost use Rattle.bv_rules.specs.Plans.{IsView, KeepsIf, moved_up as moved_up_pla
 
 use crate::gate::checked;
 use crate::plan::{NodeView, Plan, PlanId, const_of, step};
+use case_tables::first_of;
 use dag::{Dag, Node, NodeId};
 
+/// The first of these rules that applies.
+pub(crate) fn first(dag: &Dag, view: NodeView) -> Option<Plan>
+    requires { IsView dag.now view.node view.children }
+    ensures { KeepsIf dag.now view.node result }
+{
+    first_of!(
+        shl_const(dag, view),
+        shr_const(dag, view),
+        plus_self(dag, view),
+        slice_whole(dag, view),
+        slice_slice(dag, view),
+        slice_cat_high(dag, view),
+        slice_cat_low(dag, view),
+        sext_same(dag, view)
+    )
+}
+
 /// A word moved up by a constant is its lower bits above zeros.
-pub(crate) fn shl_const(dag: &Dag, view: NodeView) -> Option<Plan>
+fn shl_const(dag: &Dag, view: NodeView) -> Option<Plan>
     requires { IsView dag.now view.node view.children }
     ensures { KeepsIf dag.now view.node result }
 {
@@ -25,7 +43,7 @@ pub(crate) fn shl_const(dag: &Dag, view: NodeView) -> Option<Plan>
 }
 
 /// A word moved down by a constant is zeros above its upper bits.
-pub(crate) fn shr_const(dag: &Dag, view: NodeView) -> Option<Plan>
+fn shr_const(dag: &Dag, view: NodeView) -> Option<Plan>
     requires { IsView dag.now view.node view.children }
     ensures { KeepsIf dag.now view.node result }
 {
@@ -42,7 +60,7 @@ pub(crate) fn shr_const(dag: &Dag, view: NodeView) -> Option<Plan>
 }
 
 /// `x + x` is x moved up by 1.
-pub(crate) fn plus_self(dag: &Dag, view: NodeView) -> Option<Plan>
+fn plus_self(dag: &Dag, view: NodeView) -> Option<Plan>
     requires { IsView dag.now view.node view.children }
     ensures { KeepsIf dag.now view.node result }
 {
@@ -58,7 +76,7 @@ pub(crate) fn plus_self(dag: &Dag, view: NodeView) -> Option<Plan>
 }
 
 /// All bits of x are x.
-pub(crate) fn slice_whole(dag: &Dag, view: NodeView) -> Option<Plan>
+fn slice_whole(dag: &Dag, view: NodeView) -> Option<Plan>
     requires { IsView dag.now view.node view.children }
     ensures { KeepsIf dag.now view.node result }
 {
@@ -74,7 +92,7 @@ pub(crate) fn slice_whole(dag: &Dag, view: NodeView) -> Option<Plan>
 }
 
 /// Bits of bits are bits of the whole.
-pub(crate) fn slice_slice(dag: &Dag, view: NodeView) -> Option<Plan>
+fn slice_slice(dag: &Dag, view: NodeView) -> Option<Plan>
     requires { IsView dag.now view.node view.children }
     ensures { KeepsIf dag.now view.node result }
 {
@@ -98,7 +116,7 @@ pub(crate) fn slice_slice(dag: &Dag, view: NodeView) -> Option<Plan>
 }
 
 /// Bits of the upper part of a joint.
-pub(crate) fn slice_cat_high(dag: &Dag, view: NodeView) -> Option<Plan>
+fn slice_cat_high(dag: &Dag, view: NodeView) -> Option<Plan>
     requires { IsView dag.now view.node view.children }
     ensures { KeepsIf dag.now view.node result }
 {
@@ -123,7 +141,7 @@ pub(crate) fn slice_cat_high(dag: &Dag, view: NodeView) -> Option<Plan>
 }
 
 /// Bits of the lower part of a joint.
-pub(crate) fn slice_cat_low(dag: &Dag, view: NodeView) -> Option<Plan>
+fn slice_cat_low(dag: &Dag, view: NodeView) -> Option<Plan>
     requires { IsView dag.now view.node view.children }
     ensures { KeepsIf dag.now view.node result }
 {
@@ -147,7 +165,7 @@ pub(crate) fn slice_cat_low(dag: &Dag, view: NodeView) -> Option<Plan>
 }
 
 /// A word extended to its own width is that word.
-pub(crate) fn sext_same(dag: &Dag, view: NodeView) -> Option<Plan>
+fn sext_same(dag: &Dag, view: NodeView) -> Option<Plan>
     requires { IsView dag.now view.node view.children }
     ensures { KeepsIf dag.now view.node result }
 {
@@ -163,7 +181,7 @@ pub(crate) fn sext_same(dag: &Dag, view: NodeView) -> Option<Plan>
 }
 
 /// The plan of x moved up by some places: its lower bits above zeros.
-fn moved_up(width: u32, a: NodeId, places: u32) -> Plan
+pub(crate) fn moved_up(width: u32, a: NodeId, places: u32) -> Plan
     requires { places < width }
     ensures { result ≡ moved_up_plan width a places }
 {

@@ -4,10 +4,26 @@ ghost use Rattle.bv_rules.specs.Plans.{IsView, KeepsIf};
 
 use crate::gate::checked;
 use crate::plan::{NodeView, Plan};
+use case_tables::first_of;
 use dag::{Dag, Node};
 
+/// The first of these rules that applies.
+pub(crate) fn first(dag: &Dag, view: NodeView) -> Option<Plan>
+    requires { IsView dag.now view.node view.children }
+    ensures { KeepsIf dag.now view.node result }
+{
+    first_of!(
+        and_self(dag, view),
+        or_self(dag, view),
+        xor_self(dag, view),
+        eq_self(dag, view),
+        ult_self(dag, view),
+        slt_self(dag, view)
+    )
+}
+
 /// `x & x` is x.
-pub(crate) fn and_self(dag: &Dag, view: NodeView) -> Option<Plan>
+fn and_self(dag: &Dag, view: NodeView) -> Option<Plan>
     requires { IsView dag.now view.node view.children }
     ensures { KeepsIf dag.now view.node result }
 {
@@ -22,7 +38,7 @@ pub(crate) fn and_self(dag: &Dag, view: NodeView) -> Option<Plan>
 }
 
 /// `x | x` is x.
-pub(crate) fn or_self(dag: &Dag, view: NodeView) -> Option<Plan>
+fn or_self(dag: &Dag, view: NodeView) -> Option<Plan>
     requires { IsView dag.now view.node view.children }
     ensures { KeepsIf dag.now view.node result }
 {
@@ -37,7 +53,7 @@ pub(crate) fn or_self(dag: &Dag, view: NodeView) -> Option<Plan>
 }
 
 /// `x ^ x` is 0.
-pub(crate) fn xor_self(dag: &Dag, view: NodeView) -> Option<Plan>
+fn xor_self(dag: &Dag, view: NodeView) -> Option<Plan>
     requires { IsView dag.now view.node view.children }
     ensures { KeepsIf dag.now view.node result }
 {
@@ -53,7 +69,7 @@ pub(crate) fn xor_self(dag: &Dag, view: NodeView) -> Option<Plan>
 }
 
 /// `x == x` is 1.
-pub(crate) fn eq_self(dag: &Dag, view: NodeView) -> Option<Plan>
+fn eq_self(dag: &Dag, view: NodeView) -> Option<Plan>
     requires { IsView dag.now view.node view.children }
     ensures { KeepsIf dag.now view.node result }
 {
@@ -68,7 +84,7 @@ pub(crate) fn eq_self(dag: &Dag, view: NodeView) -> Option<Plan>
 }
 
 /// x is not below itself.
-pub(crate) fn ult_self(dag: &Dag, view: NodeView) -> Option<Plan>
+fn ult_self(dag: &Dag, view: NodeView) -> Option<Plan>
     requires { IsView dag.now view.node view.children }
     ensures { KeepsIf dag.now view.node result }
 {
@@ -83,7 +99,7 @@ pub(crate) fn ult_self(dag: &Dag, view: NodeView) -> Option<Plan>
 }
 
 /// x is not below itself as a signed number.
-pub(crate) fn slt_self(dag: &Dag, view: NodeView) -> Option<Plan>
+fn slt_self(dag: &Dag, view: NodeView) -> Option<Plan>
     requires { IsView dag.now view.node view.children }
     ensures { KeepsIf dag.now view.node result }
 {

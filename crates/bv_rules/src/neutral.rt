@@ -5,10 +5,32 @@ ghost use Rattle.bv_rules.specs.Plans.{IsView, KeepsIf};
 use crate::gate::checked;
 use crate::plan::{NodeView, Plan, is_const};
 use bv_words::mask;
+use case_tables::first_of;
 use dag::{Dag, Node};
 
+/// The first of these rules that applies.
+pub(crate) fn first(dag: &Dag, view: NodeView) -> Option<Plan>
+    requires { IsView dag.now view.node view.children }
+    ensures { KeepsIf dag.now view.node result }
+{
+    first_of!(
+        plus_zero(dag, view),
+        zero_plus(dag, view),
+        or_zero(dag, view),
+        zero_or(dag, view),
+        xor_zero(dag, view),
+        zero_xor(dag, view),
+        times_one(dag, view),
+        one_times(dag, view),
+        and_ones(dag, view),
+        ones_and(dag, view),
+        shl_zero(dag, view),
+        shr_zero(dag, view)
+    )
+}
+
 /// `x + 0` is x.
-pub(crate) fn plus_zero(dag: &Dag, view: NodeView) -> Option<Plan>
+fn plus_zero(dag: &Dag, view: NodeView) -> Option<Plan>
     requires { IsView dag.now view.node view.children }
     ensures { KeepsIf dag.now view.node result }
 {
@@ -23,7 +45,7 @@ pub(crate) fn plus_zero(dag: &Dag, view: NodeView) -> Option<Plan>
 }
 
 /// `0 + x` is x.
-pub(crate) fn zero_plus(dag: &Dag, view: NodeView) -> Option<Plan>
+fn zero_plus(dag: &Dag, view: NodeView) -> Option<Plan>
     requires { IsView dag.now view.node view.children }
     ensures { KeepsIf dag.now view.node result }
 {
@@ -38,7 +60,7 @@ pub(crate) fn zero_plus(dag: &Dag, view: NodeView) -> Option<Plan>
 }
 
 /// `x | 0` is x.
-pub(crate) fn or_zero(dag: &Dag, view: NodeView) -> Option<Plan>
+fn or_zero(dag: &Dag, view: NodeView) -> Option<Plan>
     requires { IsView dag.now view.node view.children }
     ensures { KeepsIf dag.now view.node result }
 {
@@ -53,7 +75,7 @@ pub(crate) fn or_zero(dag: &Dag, view: NodeView) -> Option<Plan>
 }
 
 /// `0 | x` is x.
-pub(crate) fn zero_or(dag: &Dag, view: NodeView) -> Option<Plan>
+fn zero_or(dag: &Dag, view: NodeView) -> Option<Plan>
     requires { IsView dag.now view.node view.children }
     ensures { KeepsIf dag.now view.node result }
 {
@@ -68,7 +90,7 @@ pub(crate) fn zero_or(dag: &Dag, view: NodeView) -> Option<Plan>
 }
 
 /// `x ^ 0` is x.
-pub(crate) fn xor_zero(dag: &Dag, view: NodeView) -> Option<Plan>
+fn xor_zero(dag: &Dag, view: NodeView) -> Option<Plan>
     requires { IsView dag.now view.node view.children }
     ensures { KeepsIf dag.now view.node result }
 {
@@ -83,7 +105,7 @@ pub(crate) fn xor_zero(dag: &Dag, view: NodeView) -> Option<Plan>
 }
 
 /// `0 ^ x` is x.
-pub(crate) fn zero_xor(dag: &Dag, view: NodeView) -> Option<Plan>
+fn zero_xor(dag: &Dag, view: NodeView) -> Option<Plan>
     requires { IsView dag.now view.node view.children }
     ensures { KeepsIf dag.now view.node result }
 {
@@ -98,7 +120,7 @@ pub(crate) fn zero_xor(dag: &Dag, view: NodeView) -> Option<Plan>
 }
 
 /// `x * 1` is x.
-pub(crate) fn times_one(dag: &Dag, view: NodeView) -> Option<Plan>
+fn times_one(dag: &Dag, view: NodeView) -> Option<Plan>
     requires { IsView dag.now view.node view.children }
     ensures { KeepsIf dag.now view.node result }
 {
@@ -113,7 +135,7 @@ pub(crate) fn times_one(dag: &Dag, view: NodeView) -> Option<Plan>
 }
 
 /// `1 * x` is x.
-pub(crate) fn one_times(dag: &Dag, view: NodeView) -> Option<Plan>
+fn one_times(dag: &Dag, view: NodeView) -> Option<Plan>
     requires { IsView dag.now view.node view.children }
     ensures { KeepsIf dag.now view.node result }
 {
@@ -128,7 +150,7 @@ pub(crate) fn one_times(dag: &Dag, view: NodeView) -> Option<Plan>
 }
 
 /// `x & -1` is x.
-pub(crate) fn and_ones(dag: &Dag, view: NodeView) -> Option<Plan>
+fn and_ones(dag: &Dag, view: NodeView) -> Option<Plan>
     requires { IsView dag.now view.node view.children }
     ensures { KeepsIf dag.now view.node result }
 {
@@ -144,7 +166,7 @@ pub(crate) fn and_ones(dag: &Dag, view: NodeView) -> Option<Plan>
 }
 
 /// `-1 & x` is x.
-pub(crate) fn ones_and(dag: &Dag, view: NodeView) -> Option<Plan>
+fn ones_and(dag: &Dag, view: NodeView) -> Option<Plan>
     requires { IsView dag.now view.node view.children }
     ensures { KeepsIf dag.now view.node result }
 {
@@ -160,7 +182,7 @@ pub(crate) fn ones_and(dag: &Dag, view: NodeView) -> Option<Plan>
 }
 
 /// A shift by 0 is the shifted word.
-pub(crate) fn shl_zero(dag: &Dag, view: NodeView) -> Option<Plan>
+fn shl_zero(dag: &Dag, view: NodeView) -> Option<Plan>
     requires { IsView dag.now view.node view.children }
     ensures { KeepsIf dag.now view.node result }
 {
@@ -176,7 +198,7 @@ pub(crate) fn shl_zero(dag: &Dag, view: NodeView) -> Option<Plan>
 }
 
 /// A shift by 0 is the shifted word.
-pub(crate) fn shr_zero(dag: &Dag, view: NodeView) -> Option<Plan>
+fn shr_zero(dag: &Dag, view: NodeView) -> Option<Plan>
     requires { IsView dag.now view.node view.children }
     ensures { KeepsIf dag.now view.node result }
 {

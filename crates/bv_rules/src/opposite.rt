@@ -5,10 +5,24 @@ ghost use Rattle.bv_rules.specs.Plans.{IsView, KeepsIf};
 use crate::gate::checked;
 use crate::plan::{NodeView, Plan, is_const};
 use bv_words::mask;
+use case_tables::first_of;
 use dag::{Dag, Node};
 
+/// The first of these rules that applies.
+pub(crate) fn first(dag: &Dag, view: NodeView) -> Option<Plan>
+    requires { IsView dag.now view.node view.children }
+    ensures { KeepsIf dag.now view.node result }
+{
+    first_of!(
+        not_not(dag, view),
+        neg_neg(dag, view),
+        xor_ones(dag, view),
+        ones_xor(dag, view)
+    )
+}
+
 /// `~~x` is x.
-pub(crate) fn not_not(dag: &Dag, view: NodeView) -> Option<Plan>
+fn not_not(dag: &Dag, view: NodeView) -> Option<Plan>
     requires { IsView dag.now view.node view.children }
     ensures { KeepsIf dag.now view.node result }
 {
@@ -23,7 +37,7 @@ pub(crate) fn not_not(dag: &Dag, view: NodeView) -> Option<Plan>
 }
 
 /// `-(-x)` is x.
-pub(crate) fn neg_neg(dag: &Dag, view: NodeView) -> Option<Plan>
+fn neg_neg(dag: &Dag, view: NodeView) -> Option<Plan>
     requires { IsView dag.now view.node view.children }
     ensures { KeepsIf dag.now view.node result }
 {
@@ -38,7 +52,7 @@ pub(crate) fn neg_neg(dag: &Dag, view: NodeView) -> Option<Plan>
 }
 
 /// `x ^ -1` is `~x`.
-pub(crate) fn xor_ones(dag: &Dag, view: NodeView) -> Option<Plan>
+fn xor_ones(dag: &Dag, view: NodeView) -> Option<Plan>
     requires { IsView dag.now view.node view.children }
     ensures { KeepsIf dag.now view.node result }
 {
@@ -54,7 +68,7 @@ pub(crate) fn xor_ones(dag: &Dag, view: NodeView) -> Option<Plan>
 }
 
 /// `-1 ^ x` is `~x`.
-pub(crate) fn ones_xor(dag: &Dag, view: NodeView) -> Option<Plan>
+fn ones_xor(dag: &Dag, view: NodeView) -> Option<Plan>
     requires { IsView dag.now view.node view.children }
     ensures { KeepsIf dag.now view.node result }
 {

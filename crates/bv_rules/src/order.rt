@@ -4,10 +4,26 @@ ghost use Rattle.bv_rules.specs.Plans.{IsView, KeepsIf};
 
 use crate::gate::checked;
 use crate::plan::{NodeView, Plan};
+use case_tables::first_of;
 use dag::{Dag, Node};
 
+/// The first of these rules that applies.
+pub(crate) fn first(dag: &Dag, view: NodeView) -> Option<Plan>
+    requires { IsView dag.now view.node view.children }
+    ensures { KeepsIf dag.now view.node result }
+{
+    first_of!(
+        and_swap(dag, view),
+        or_swap(dag, view),
+        xor_swap(dag, view),
+        plus_swap(dag, view),
+        times_swap(dag, view),
+        eq_swap(dag, view)
+    )
+}
+
 /// The children of a commutative node stand in the order of their places.
-pub(crate) fn and_swap(dag: &Dag, view: NodeView) -> Option<Plan>
+fn and_swap(dag: &Dag, view: NodeView) -> Option<Plan>
     requires { IsView dag.now view.node view.children }
     ensures { KeepsIf dag.now view.node result }
 {
@@ -22,7 +38,7 @@ pub(crate) fn and_swap(dag: &Dag, view: NodeView) -> Option<Plan>
 }
 
 /// The children of a commutative node stand in the order of their places.
-pub(crate) fn or_swap(dag: &Dag, view: NodeView) -> Option<Plan>
+fn or_swap(dag: &Dag, view: NodeView) -> Option<Plan>
     requires { IsView dag.now view.node view.children }
     ensures { KeepsIf dag.now view.node result }
 {
@@ -37,7 +53,7 @@ pub(crate) fn or_swap(dag: &Dag, view: NodeView) -> Option<Plan>
 }
 
 /// The children of a commutative node stand in the order of their places.
-pub(crate) fn xor_swap(dag: &Dag, view: NodeView) -> Option<Plan>
+fn xor_swap(dag: &Dag, view: NodeView) -> Option<Plan>
     requires { IsView dag.now view.node view.children }
     ensures { KeepsIf dag.now view.node result }
 {
@@ -52,7 +68,7 @@ pub(crate) fn xor_swap(dag: &Dag, view: NodeView) -> Option<Plan>
 }
 
 /// The children of a commutative node stand in the order of their places.
-pub(crate) fn plus_swap(dag: &Dag, view: NodeView) -> Option<Plan>
+fn plus_swap(dag: &Dag, view: NodeView) -> Option<Plan>
     requires { IsView dag.now view.node view.children }
     ensures { KeepsIf dag.now view.node result }
 {
@@ -67,7 +83,7 @@ pub(crate) fn plus_swap(dag: &Dag, view: NodeView) -> Option<Plan>
 }
 
 /// The children of a commutative node stand in the order of their places.
-pub(crate) fn times_swap(dag: &Dag, view: NodeView) -> Option<Plan>
+fn times_swap(dag: &Dag, view: NodeView) -> Option<Plan>
     requires { IsView dag.now view.node view.children }
     ensures { KeepsIf dag.now view.node result }
 {
@@ -82,7 +98,7 @@ pub(crate) fn times_swap(dag: &Dag, view: NodeView) -> Option<Plan>
 }
 
 /// The children of a commutative node stand in the order of their places.
-pub(crate) fn eq_swap(dag: &Dag, view: NodeView) -> Option<Plan>
+fn eq_swap(dag: &Dag, view: NodeView) -> Option<Plan>
     requires { IsView dag.now view.node view.children }
     ensures { KeepsIf dag.now view.node result }
 {

@@ -203,7 +203,11 @@ fn equal_and_opposite_children(rt: HostRuntime) -> Result<(), Fail> {
             Node::Plus(n.neg_x, n.x),
             Picked::One(Node::Plus(n.x, n.neg_x)),
         ),
-        (Node::Plus(n.x, n.neg_x), Picked::Nothing),
+        (
+            Node::Plus(n.x, n.neg_x),
+            Picked::One(Node::Const { width: 8, value: 0 }),
+        ),
+        (Node::Plus(n.x, n.not_x), Picked::Nothing),
     ];
     compare(&rt, &dag, &rows);
     Ok(())
@@ -255,7 +259,7 @@ fn cuts_shifts_and_choices(rt: HostRuntime) -> Result<(), Fail> {
                 low: 7,
                 a: n.cat,
             },
-            Picked::Nothing,
+            Picked::More(3),
         ),
         (
             Node::Slt(n.x, n.zero),
@@ -272,6 +276,305 @@ fn cuts_shifts_and_choices(rt: HostRuntime) -> Result<(), Fail> {
             Picked::One(Node::Ite(n.bit, n.one, n.x)),
         ),
         (Node::Ite(n.bit, n.x, n.one), Picked::Nothing),
+    ];
+    compare(&rt, &dag, &rows);
+    Ok(())
+}
+
+/// A constant of a width.
+fn word(rt: &impl Abort, dag: &mut Dag, width: u32, value: u64) -> Result<NodeId, Fail> {
+    put(rt, dag, Node::Const { width, value })
+}
+
+fn slice(high: u32, low: u32, a: NodeId) -> Node {
+    Node::Slice { high, low, a }
+}
+
+fn sext(width: u32, a: NodeId) -> Node {
+    Node::Sext { width, a }
+}
+
+#[test]
+fn operations_on_constants(rt: HostRuntime) -> Result<(), Fail> {
+    let mut dag = begin(rt.alloc())?;
+    let n = example_nodes(&rt, &mut dag)?;
+    let one = |width: u32, value: u64| Picked::One(Node::Const { width, value });
+    let rows = [
+        (Node::Neg(n.three), one(8, 253)),
+        (Node::Not(n.nine), one(8, 246)),
+        (sext(32, n.ones), one(32, 0xffff_ffff)),
+        (slice(3, 1, n.nine), one(3, 4)),
+        (Node::Plus(n.ones, n.three), one(8, 2)),
+        (Node::Times(n.three, n.nine), one(8, 27)),
+        (Node::Slt(n.ones, n.three), one(1, 1)),
+        (Node::Ult(n.ones, n.three), one(1, 0)),
+        (Node::Shl(n.three, n.three), one(8, 24)),
+        (Node::Cat(n.three, n.nine), one(16, 0x0309)),
+        (Node::Plus(n.x, n.three), Picked::Nothing),
+        (Node::Neg(n.x), Picked::Nothing),
+    ];
+    compare(&rt, &dag, &rows);
+    Ok(())
+}
+
+#[test]
+fn constants_gathered(rt: HostRuntime) -> Result<(), Fail> {
+    let mut dag = begin(rt.alloc())?;
+    let n = example_nodes(&rt, &mut dag)?;
+    let sum = put(&rt, &mut dag, Node::Plus(n.x, n.three))?;
+    let product = put(&rt, &mut dag, Node::Times(n.x, n.three))?;
+    let apart = put(&rt, &mut dag, Node::Xor(n.x, n.three))?;
+    let common = put(&rt, &mut dag, Node::And(n.x, n.nine))?;
+    let rows = [
+        (Node::Plus(n.nine, sum), Picked::More(2)),
+        (Node::Times(n.nine, product), Picked::More(2)),
+        (Node::Xor(n.nine, apart), Picked::More(2)),
+        (Node::And(n.nine, common), Picked::More(2)),
+        (Node::Plus(n.nine, product), Picked::Nothing),
+        (Node::Times(n.nine, sum), Picked::Nothing),
+        (Node::Xor(n.nine, sum), Picked::Nothing),
+        (Node::And(n.nine, apart), Picked::Nothing),
+        (Node::Plus(n.not_x, sum), Picked::Nothing),
+    ];
+    compare(&rt, &dag, &rows);
+    Ok(())
+}
+
+#[test]
+fn operations_undone(rt: HostRuntime) -> Result<(), Fail> {
+    let mut dag = begin(rt.alloc())?;
+    let n = example_nodes(&rt, &mut dag)?;
+    let apart = put(&rt, &mut dag, Node::Xor(n.x, n.neg_x))?;
+    let either = put(&rt, &mut dag, Node::Or(n.x, n.neg_x))?;
+    let both = put(&rt, &mut dag, Node::And(n.x, n.neg_x))?;
+    let other = put(&rt, &mut dag, Node::And(n.x, n.not_x))?;
+    let less = put(&rt, &mut dag, Node::Neg(both))?;
+    let wrong = put(&rt, &mut dag, Node::Neg(other))?;
+    let rows = [
+        (Node::Xor(n.x, apart), Picked::Same(n.neg_x)),
+        (Node::Xor(n.neg_x, apart), Picked::Same(n.x)),
+        (Node::Xor(n.not_x, apart), Picked::Nothing),
+        (
+            Node::Xor(n.x, n.not_x),
+            Picked::One(Node::Const {
+                width: 8,
+                value: 255,
+            }),
+        ),
+        (Node::Xor(n.x, n.neg_x), Picked::Nothing),
+        (
+            Node::Plus(either, less),
+            Picked::One(Node::Xor(n.x, n.neg_x)),
+        ),
+        (Node::Plus(either, wrong), Picked::Nothing),
+        (Node::Plus(either, both), Picked::Nothing),
+    ];
+    compare(&rt, &dag, &rows);
+    Ok(())
+}
+
+#[test]
+fn masks_and_powers(rt: HostRuntime) -> Result<(), Fail> {
+    let mut dag = begin(rt.alloc())?;
+    let n = example_nodes(&rt, &mut dag)?;
+    let eight = word(&rt, &mut dag, 8, 8)?;
+    let rows = [
+        (Node::And(n.x, n.three), Picked::More(3)),
+        (Node::And(n.x, n.nine), Picked::Nothing),
+        (Node::Times(n.x, eight), Picked::More(3)),
+        (Node::Times(n.x, n.nine), Picked::Nothing),
+    ];
+    compare(&rt, &dag, &rows);
+    Ok(())
+}
+
+#[test]
+fn extended_words(rt: HostRuntime) -> Result<(), Fail> {
+    let mut dag = begin(rt.alloc())?;
+    let n = example_nodes(&rt, &mut dag)?;
+    let wide = put(&rt, &mut dag, sext(32, n.x))?;
+    let zeros = word(&rt, &mut dag, 24, 0)?;
+    let joint = put(&rt, &mut dag, Node::Cat(zeros, n.x))?;
+    let front = put(&rt, &mut dag, Node::Cat(n.x, zeros))?;
+    let rows = [
+        (slice(6, 2, wide), Picked::One(slice(6, 2, n.x))),
+        (slice(11, 4, wide), Picked::More(2)),
+        (slice(11, 9, wide), Picked::Nothing),
+        (sext(64, wide), Picked::One(sext(64, n.x))),
+        (sext(64, joint), Picked::More(2)),
+        (sext(64, front), Picked::Nothing),
+    ];
+    compare(&rt, &dag, &rows);
+    Ok(())
+}
+
+#[test]
+fn joints(rt: HostRuntime) -> Result<(), Fail> {
+    let mut dag = begin(rt.alloc())?;
+    let n = example_nodes(&rt, &mut dag)?;
+    let high = put(&rt, &mut dag, slice(7, 5, n.x))?;
+    let low = put(&rt, &mut dag, slice(4, 2, n.x))?;
+    let other = put(&rt, &mut dag, slice(4, 2, n.not_x))?;
+    let rows = [
+        (Node::Cat(high, low), Picked::One(slice(7, 2, n.x))),
+        (Node::Cat(high, other), Picked::Nothing),
+        (Node::Cat(low, high), Picked::Nothing),
+        (Node::Cat(n.cat, n.x), Picked::More(2)),
+        (Node::Cat(n.x, n.cat), Picked::Nothing),
+        (slice(10, 5, n.cat), Picked::More(3)),
+    ];
+    compare(&rt, &dag, &rows);
+    Ok(())
+}
+
+#[test]
+fn words_of_two_parts(rt: HostRuntime) -> Result<(), Fail> {
+    let mut dag = begin(rt.alloc())?;
+    let n = example_nodes(&rt, &mut dag)?;
+    let high = put(&rt, &mut dag, slice(4, 0, n.x))?;
+    let low = put(&rt, &mut dag, slice(7, 5, n.x))?;
+    let five = word(&rt, &mut dag, 5, 0)?;
+    let three = word(&rt, &mut dag, 3, 0)?;
+    let up = put(&rt, &mut dag, Node::Cat(high, three))?;
+    let down = put(&rt, &mut dag, Node::Cat(five, low))?;
+    let short = put(&rt, &mut dag, Node::Cat(three, high))?;
+    let rotated = Picked::One(Node::Cat(high, low));
+    let rows = [
+        (Node::Or(up, down), rotated),
+        (Node::Xor(up, down), rotated),
+        (Node::Plus(up, down), rotated),
+        (Node::Or(up, short), Picked::Nothing),
+        (Node::Xor(up, short), Picked::Nothing),
+        (Node::Plus(up, short), Picked::Nothing),
+        (Node::And(up, down), Picked::Nothing),
+    ];
+    compare(&rt, &dag, &rows);
+    Ok(())
+}
+
+#[test]
+fn comparisons_of_narrow_words(rt: HostRuntime) -> Result<(), Fail> {
+    let mut dag = begin(rt.alloc())?;
+    let n = example_nodes(&rt, &mut dag)?;
+    let zeros = word(&rt, &mut dag, 24, 0)?;
+    let joint = put(&rt, &mut dag, Node::Cat(zeros, n.x))?;
+    let wide = put(&rt, &mut dag, sext(32, n.x))?;
+    let seven = word(&rt, &mut dag, 32, 7)?;
+    let past = word(&rt, &mut dag, 32, 300)?;
+    let minus_three = word(&rt, &mut dag, 32, 0xffff_fffd)?;
+    let half = word(&rt, &mut dag, 32, 200)?;
+    let choice = put(&rt, &mut dag, Node::Ite(n.bit, n.three, n.nine))?;
+    let zero = NodeId(0);
+    let never = Picked::One(Node::Const { width: 1, value: 0 });
+    let rows = [
+        (Node::Eq(zero, n.bit), Picked::One(Node::Not(n.bit))),
+        (Node::Eq(n.x, n.zero), Picked::Nothing),
+        (Node::Eq(joint, seven), Picked::More(2)),
+        (Node::Eq(joint, past), never),
+        (Node::Ult(joint, seven), Picked::More(2)),
+        (Node::Ult(joint, past), Picked::Nothing),
+        (Node::Ult(n.x, n.one), Picked::More(2)),
+        (Node::Ult(n.x, n.three), Picked::Nothing),
+        (Node::Eq(wide, minus_three), Picked::More(2)),
+        (Node::Eq(wide, half), Picked::Nothing),
+        (Node::Eq(n.three, choice), Picked::Same(n.bit)),
+        (Node::Eq(n.nine, choice), Picked::One(Node::Not(n.bit))),
+        (Node::Eq(n.one, choice), Picked::Nothing),
+    ];
+    compare(&rt, &dag, &rows);
+    Ok(())
+}
+
+#[test]
+fn choices_of_bits_and_nested_choices(rt: HostRuntime) -> Result<(), Fail> {
+    let mut dag = begin(rt.alloc())?;
+    let n = example_nodes(&rt, &mut dag)?;
+    let other = put(&rt, &mut dag, Node::Eq(n.x, n.three))?;
+    let inner = put(&rt, &mut dag, Node::Ite(n.bit, n.x, n.one))?;
+    let zero = NodeId(0);
+    let one = NodeId(1);
+    let rows = [
+        (Node::Ite(n.bit, one, zero), Picked::Same(n.bit)),
+        (Node::Ite(n.bit, zero, one), Picked::One(Node::Not(n.bit))),
+        (Node::Ite(n.bit, n.zero, n.one), Picked::Nothing),
+        (
+            Node::Ite(n.bit, other, zero),
+            Picked::One(Node::And(n.bit, other)),
+        ),
+        (Node::Ite(n.bit, n.x, n.zero), Picked::Nothing),
+        (
+            Node::Ite(n.bit, one, other),
+            Picked::One(Node::Or(n.bit, other)),
+        ),
+        (Node::Ite(n.bit, n.one, n.x), Picked::Nothing),
+        (
+            Node::Ite(n.bit, inner, n.nine),
+            Picked::One(Node::Ite(n.bit, n.x, n.nine)),
+        ),
+        (
+            Node::Ite(n.bit, n.nine, inner),
+            Picked::One(Node::Ite(n.bit, n.nine, n.one)),
+        ),
+        (Node::Ite(other, inner, n.nine), Picked::Nothing),
+        (Node::Ite(other, n.nine, inner), Picked::Nothing),
+    ];
+    compare(&rt, &dag, &rows);
+    Ok(())
+}
+
+#[test]
+fn more_neutral_and_absorbing_constants(rt: HostRuntime) -> Result<(), Fail> {
+    let mut dag = begin(rt.alloc())?;
+    let n = example_nodes(&rt, &mut dag)?;
+    let y = put(&rt, &mut dag, Node::Not(n.cat))?;
+    let zeros = word(&rt, &mut dag, 16, 0)?;
+    let ones = word(&rt, &mut dag, 16, 0xffff)?;
+    let one = word(&rt, &mut dag, 16, 1)?;
+    let later = put(&rt, &mut dag, Node::Neg(n.cat))?;
+    let zero = Picked::One(Node::Const {
+        width: 16,
+        value: 0,
+    });
+    let all = Picked::One(Node::Const {
+        width: 16,
+        value: 0xffff,
+    });
+    let rows = [
+        (Node::Plus(zeros, y), Picked::Same(y)),
+        (Node::Or(zeros, y), Picked::Same(y)),
+        (Node::Xor(zeros, y), Picked::Same(y)),
+        (Node::Xor(y, zeros), Picked::Same(y)),
+        (Node::Times(one, y), Picked::Same(y)),
+        (Node::And(ones, y), Picked::Same(y)),
+        (Node::Shl(y, zeros), Picked::Same(y)),
+        (Node::And(zeros, y), zero),
+        (Node::Times(zeros, y), zero),
+        (Node::Or(ones, y), all),
+        (Node::Shl(zeros, y), zero),
+        (Node::Shr(zeros, y), zero),
+        (Node::Shr(y, ones), zero),
+        (Node::Xor(ones, later), Picked::One(Node::Not(later))),
+        (Node::Xor(y, ones), Picked::One(Node::Not(y))),
+        (Node::Or(y, y), Picked::Same(y)),
+        (
+            Node::Ult(y, y),
+            Picked::One(Node::Const { width: 1, value: 0 }),
+        ),
+        (
+            Node::Ult(y, zeros),
+            Picked::One(Node::Const { width: 1, value: 0 }),
+        ),
+        (Node::And(y, n.cat), Picked::One(Node::And(n.cat, y))),
+        (Node::Or(y, n.cat), Picked::One(Node::Or(n.cat, y))),
+        (Node::Xor(y, n.cat), Picked::One(Node::Xor(n.cat, y))),
+        (Node::Times(y, n.cat), Picked::One(Node::Times(n.cat, y))),
+        (Node::Eq(y, n.cat), Picked::One(Node::Eq(n.cat, y))),
+        (sext(16, y), Picked::Same(y)),
+        (Node::Ite(NodeId(0), y, n.cat), Picked::Same(n.cat)),
+        (Node::Ite(n.bit, y, y), Picked::Same(y)),
+        (Node::Ult(y, n.cat), Picked::Nothing),
+        (Node::Shl(y, n.x), Picked::Nothing),
+        (sext(17, y), Picked::Nothing),
     ];
     compare(&rt, &dag, &rows);
     Ok(())

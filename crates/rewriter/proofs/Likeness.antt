@@ -1,14 +1,16 @@
 -- Nodes that are like the asked one.
-use Rattle.std.proofs.Common.{◌≡◌, ℕ, ◌*◌, ◌≤◌, List, [], ◌∷◌, length, get_or, refl, sym, ◌∙◌, ap, subst, arith, Option, Some, None}
+use Rattle.std.proofs.Common.{◌≡◌, ℕ, ◌*◌, ◌≤◌, List, [], ◌∷◌, length, take, get_or, refl, sym, ◌∙◌, ap, subst, arith, Option, Some, None}
 use Rattle.std.specs.Prelude.{IsSome}
+use Rattle.dag.specs.declared.node.NodeId.{NodeId}
 use Rattle.dag.specs.declared.node.Node.{Node}
 use Rattle.dag.specs.Node.{node_value}
 use Rattle.dag.specs.Graph.{Graph, Makes, Costs, fits_width, charge_in}
 use Rattle.bv_rules.specs.declared.plan.PlanId.{PlanId}
-use Rattle.bv_rules.specs.declared.plan.PlanId.TheVariants.{New}
+use Rattle.bv_rules.specs.declared.plan.PlanId.TheVariants.{New, Old}
 use Rattle.bv_rules.specs.declared.plan.PlanNode.{PlanNode}
 use Rattle.bv_rules.specs.declared.plan.Plan.{Plan}
 use Rattle.bv_rules.specs.Plans.{Keeps, steps, step_width, plan_widths, plan_values, result_width, value_at}
+use Rattle.dag.proofs.Growing.{extends_refl}
 use Rattle.rewriter.specs.Building.{IsLike, IsPlaced, placed}
 use Rattle.rewriter.proofs.Placing.{placed_none, placed_width, placed_value, next_fits, plan_fits, value_grown}
 
@@ -89,4 +91,22 @@ like_one g n m q d fits keeps one first is cheap =
           ∙ ap (value_at values (plan_values g input values [] [] (steps q))) (sym first)
           ∙ keeps.value input values h;
       charge = cheap;
+    }
+
+pub like_costs_same : (old new : Graph) (a b : Node) → IsLike old a b → Costs old new 1 (charge_in old b) → Costs old new 1 (charge_in old a)
+like_costs_same old new a b h c = record { nodes = c.nodes; units = omega (arith, c.units, h.charge) }
+
+-- a plan that adds no node
+pub present_makes : (g : Graph) (n : Node) (p : Plan) (id : NodeId) → Keeps g n p → p.count ≡ 0 → p.result ≡ Old id → Makes g g n id.0
+present_makes g n p id keeps none is =
+    let no_steps : steps p ≡ [] = ap (λ (k : ℕ). take k p.nodes) none in
+    record {
+      grows = extends_refl g;
+      width = sym (ap (λ (ps : List PlanNode). result_width g (Old id) (plan_widths g [] ps)) no_steps)
+          ∙ ap (λ (c : PlanId). result_width g c (plan_widths g [] (steps p))) (sym is)
+          ∙ keeps.sound.width;
+      value = λ input values h.
+          sym (ap (λ (ps : List PlanNode). value_at values (plan_values g input values [] [] ps) (Old id)) no_steps)
+          ∙ ap (value_at values (plan_values g input values [] [] (steps p))) (sym is)
+          ∙ keeps.value input values h;
     }

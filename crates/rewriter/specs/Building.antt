@@ -1,5 +1,5 @@
 -- Building a node: a plan's nodes are placed one after another, and what is added is counted.
-use Rattle.std.specs.Prelude.{◌≡◌, ℕ, ◌+◌, ◌-◌, ◌^◌, ◌≤◌, min, Some, List, [], ◌∷◌, length, map, slice_get, slice_index, slice_index_or}
+use Rattle.std.specs.Prelude.{◌≡◌, ℕ, ◌+◌, ◌-◌, ◌^◌, ◌≤◌, min, Option, Some, None, List, [], ◌∷◌, length, map, slice_get, slice_index, slice_index_or}
 use Rattle.dag.specs.declared.node.NodeId.{NodeId}
 use Rattle.dag.specs.declared.node.Node.{Node}
 use Rattle.dag.specs.declared.graph.DagError.{DagError}
@@ -9,6 +9,7 @@ use Rattle.dag.specs.Graph.{Graph, AreValues, Extends, graph_charge, fits_width,
 use Rattle.bv_rules.specs.declared.plan.PlanId.{PlanId}
 use Rattle.bv_rules.specs.declared.plan.PlanId.TheVariants.{Old, New}
 use Rattle.bv_rules.specs.declared.plan.PlanNode.{PlanNode}
+use Rattle.bv_rules.specs.declared.plan.Plan.{Plan}
 use Rattle.bv_rules.specs.Plans.{step_child, plan_widths, plan_values, plan_charge}
 use Rattle.rewriter.specs.declared.building.Charge.{Charge}
 
@@ -62,3 +63,8 @@ pub record IsLike (g : Graph) (asked node : Node) : Type 0 where
   pub width : fits_width g node ≡ fits_width g asked
   pub value : (input values : List ℕ) → AreValues g input values → node_value input g.widths values node ≡ node_value input g.widths values asked
   pub charge : charge_in g node ≤ charge_in g asked
+
+-- a plan adds no node: it is a node of the graph
+abbrev pub IsPresent : Option Plan → NodeId → Type 0
+IsPresent None id = ⊥
+IsPresent (Some p) id = (p.count ≡ 0) × (p.result ≡ Old id)

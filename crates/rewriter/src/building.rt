@@ -3,7 +3,7 @@
 ghost use Rattle.std.specs.Prelude.{◌≡◌, ℕ, ◌*◌, IsSome, IsTrue, IfSome, IfOk, IfErr};
 ghost use Rattle.dag.specs.Graph.{fits_width, Makes, Extends, Costs, charge_in};
 ghost use Rattle.bv_rules.specs.Plans.{Views, Keeps};
-ghost use Rattle.rewriter.specs.Building.{IsCounted, BuildFails, resolve as resolve_of, placed as placed_of, IsLike};
+ghost use Rattle.rewriter.specs.Building.{IsCounted, BuildFails, resolve as resolve_of, placed as placed_of, IsLike, IsPresent};
 ghost use Rattle.bv_rules.specs.declared.plan.PlanId.{PlanId};
 ghost use Rattle.bv_rules.specs.declared.plan.PlanId.TheVariants.{New, Old};
 
@@ -124,7 +124,7 @@ fn place_like(
     ensures counted { IsCounted charge.old charge.new dag.old dag.new }
     ensures cause { IfErr result (BuildFails dag.new) }
 {
-    let id = place(dag, node, charge)?;
+    let id = place_no_dearer(dag, asked, node, charge)?;
     Ok(id)
 }
 
@@ -175,6 +175,56 @@ fn place(dag: &mut Dag, node: Node, charge: &mut Charge) -> Result<NodeId, DagEr
     Ok(id)
 }
 
+/// Adds a node of a plan, or one that the rules lead to by plans of one node or none and that is no dearer.
+fn place_settled(dag: &mut Dag, node: Node, charge: &mut Charge) -> Result<NodeId, DagError>
+    requires { IsSome (fits_width dag.old node) }
+    ensures makes { IfOk result (λ id. Makes dag.old dag.new node id.0) }
+    ensures grows { Extends dag.old dag.new }
+    ensures cost { Costs dag.old dag.new 1 (charge_in dag.old node) }
+    ensures counted { IsCounted charge.old charge.new dag.old dag.new }
+    ensures cause { IfErr result (BuildFails dag.new) }
+{
+    let Charge {
+        added: _added,
+        units: _units,
+    } = *charge;
+    let (next, plan) = settled(dag, node);
+    match present(plan) {
+        Some(id) => Ok(id),
+        None => place_no_dearer(dag, node, next, charge),
+    }
+}
+
+/// The node of the graph that a plan consists of, if it adds none.
+fn present(plan: Option<Plan>) -> Option<NodeId>
+    ensures { IfSome result (λ id. IsPresent plan id) }
+{
+    let plan = plan?;
+    match plan.result {
+        PlanId::Old(id) => { if plan.count == 0 { Some(id) } else { None } }
+        PlanId::New(_) => None,
+    }
+}
+
+/// Adds a node that is like the asked one, and so adds no more than that.
+fn place_no_dearer(
+    dag: &mut Dag,
+    asked: Node,
+    node: Node,
+    charge: &mut Charge,
+) -> Result<NodeId, DagError>
+    requires fits { IsSome (fits_width dag.old asked) }
+    requires like { IsLike dag.old asked node }
+    ensures makes { IfOk result (λ id. Makes dag.old dag.new asked id.0) }
+    ensures grows { Extends dag.old dag.new }
+    ensures cost { Costs dag.old dag.new 1 (charge_in dag.old asked) }
+    ensures counted { IsCounted charge.old charge.new dag.old dag.new }
+    ensures cause { IfErr result (BuildFails dag.new) }
+{
+    let id = place(dag, node, charge)?;
+    Ok(id)
+}
+
 /// Adds the nodes of a plan that keeps a node, one after another.
 fn place_all(dag: &mut Dag, node: Node, plan: Plan, charge: &mut Charge) -> Result<NodeId, DagError>
     requires fits { IsSome (fits_width dag.old node) }
@@ -189,7 +239,7 @@ fn place_all(dag: &mut Dag, node: Node, plan: Plan, charge: &mut Charge) -> Resu
     let mut ids = [NodeId(0); 16];
     for i in 0..nodes.len() {
         let next = placed(&ids[..i], nodes[i]);
-        ids[i] = place(dag, next, charge)?;
+        ids[i] = place_settled(dag, next, charge)?;
     }
     Ok(resolve(&ids[..nodes.len()], plan.result))
 }

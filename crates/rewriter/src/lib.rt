@@ -10,4 +10,6 @@ mod building;
 pub use building::{Charge, build};
 
 #[cfg(test)]
+mod agreement;
+#[cfg(test)]
 mod tests;

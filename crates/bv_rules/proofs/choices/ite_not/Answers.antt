@@ -1,8 +1,7 @@
 use Rattle.std.proofs.Common.{ap, Some, ◌∙◌}
-use Rattle.bv_rules.specs.Plans.{one_plan}
 use Rattle.bv_rules.proofs.Viewing.{keeps}
 use Rattle.bv_rules.proofs.ChoicesLaws.{ite_not}
 use Rattle.bv_rules.proofs.choices.ite_not.Goals as goal
 
 pub returns : goal.returns
-returns c = keeps _ _ _ _ _ (c.one-plan.ensures ∙ ap one_plan c.step.ensures) c.checked.ensures (ite_not _ _ _ _ _ _ _ c.in-Ite.is (c.in_ok-child.was ∙ ap Some c.in-Not.is) c.requires)
+returns c = keeps _ _ _ _ _ c.chosen.ensures c.checked.ensures (ite_not _ _ _ _ _ _ _ c.in-Ite.is (c.in_ok-child.was ∙ ap Some c.in-Not.is) c.requires)

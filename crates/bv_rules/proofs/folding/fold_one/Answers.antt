@@ -1,0 +1,7 @@
+use Rattle.std.proofs.Common.{rules}
+use Rattle.bv_rules.proofs.Viewing.{keeps}
+use Rattle.bv_rules.proofs.FoldingLaws.{fold_one}
+use Rattle.bv_rules.proofs.folding.fold_one.Goals as goal
+
+pub returns : goal.returns
+returns c = keeps _ _ _ _ _ c.constant.ensures c.checked.ensures (fold_one _ c.args.view.node c.in_ok-width.width c.in_ok-value.value _ _ (search rules) c.in_ok-x.ensures.is c.in_ok-x.ensures.word c.in_ok-value.ensures c.requires)
