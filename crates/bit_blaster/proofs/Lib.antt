@@ -1,0 +1,15 @@
+pub mod Over
+pub mod Definitions
+pub mod Tables
+pub mod Growing
+pub mod Arithmetic
+pub mod Spells
+pub mod ProductLemmas
+pub mod ShiftLemmas
+pub mod WireLemmas
+pub mod NodeLemmas
+pub mod KindLemmas
+pub mod LeafLemmas
+pub mod Blasting
+pub mod Charging
+pub mod Places

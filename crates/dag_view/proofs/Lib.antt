@@ -1,0 +1,4 @@
+mod Positions
+mod Marking
+mod Placing
+mod Viewing
