@@ -1,0 +1,17 @@
+; a block cipher of 32 rounds on two words, after TEA
+(defconst *delta* #x9e3779b9)
+(defun half-round (w sum p q)
+  (bvxor 32
+         (bvplus 32 (bvshl 32 w 4) p)
+         (bvxor 32 (bvplus 32 w sum) (bvplus 32 (bvshr 32 w 5) q))))
+(defun rounds (left sum a b k)
+  (if (zp left)
+      (list a b)
+    (let* ((sum (bvplus 32 sum *delta*))
+           (a (bvplus 32 a (half-round b sum (nth 0 k) (nth 1 k))))
+           (b (bvplus 32 b (half-round a sum (nth 2 k) (nth 3 k)))))
+      (rounds (1- left) sum a b k))))
+(defun f (x y)
+  (let ((v (rounds 32 0 (bvsx 32 8 x) (bvsx 32 8 y)
+                   '(#x01234567 #x89abcdef #x02468ace #x13579bdf))))
+    (bvxor 32 (nth 0 v) (nth 1 v))))

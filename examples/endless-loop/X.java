@@ -1,0 +1,9 @@
+class X {
+    static int f(byte x) {
+        int i = 0;
+        while (i != x) {
+            i += 2;
+        }
+        return i;
+    }
+}

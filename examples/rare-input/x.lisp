@@ -1,0 +1,1 @@
+(defun f (x y) (bvplus 8 x y))

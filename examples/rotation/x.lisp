@@ -1,0 +1,1 @@
+(defun f (x) (leftrotate 8 3 x))

@@ -1,0 +1,2 @@
+(defun f (x)
+  (bvxor 8 x key))

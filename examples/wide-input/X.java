@@ -1,0 +1,5 @@
+class X {
+    static int f(int x) {
+        return Integer.rotateLeft(x, 7);
+    }
+}

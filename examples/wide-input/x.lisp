@@ -1,0 +1,1 @@
+(defun f (x) (leftrotate 32 7 x))
