@@ -9,3 +9,4 @@ pub mod Scopes
 pub mod Meanings
 pub mod Definitions
 pub mod Freshness
+pub mod Bindings

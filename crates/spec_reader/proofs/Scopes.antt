@@ -9,11 +9,6 @@ use Rattle.spec_reader.proofs.Faults.{Fails-bind}
 use Rattle.std.proofs.Math.ListN.{drop_of_length-le}
 use Rattle.spec_reader.specs.Forms.{Meanings, Scope, Resolver, star_parts, depth, depth_of_all, resolve}
 
--- the last place, where the rest from an offset on has one or hasn't
-abbrev pub later : ℕ → Option ℕ → Option ℕ → Option ℕ
-later at last None = last
-later at last (Some k) = Some (k + at)
-
 pub deepest_part : (es : List Expression) (i : ℕ) (e : Expression) → i < length es → e ≡ get_or es i e → depth e ≤ depth_of_all es
 deepest_part [] i e lt is = absurd (omega (arith, lt))
 deepest_part (f ∷ es) zero e lt is = rw is (omega arith)

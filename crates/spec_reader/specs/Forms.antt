@@ -127,6 +127,10 @@ with_kind at make read = read >>= λ parts. Ok (form at (make parts))
 abbrev pub let_parts : List (List ℕ) → List Resolver → Resolver → Meanings → Scope → Result (List Form) SpecError
 let_parts bound values body names scope = forms values names scope >>= λ vs. body names (scope ++ bound) >>= λ b. Ok (vs ++ b ∷ [])
 
+-- the names of a `let` are distinct
+abbrev pub let_form : ℕ → List (List ℕ) → List Resolver → Resolver → Meanings → Scope → Result Form SpecError
+let_form at bound values body names scope = if are_distinct bound then with_kind at kind.Let (let_parts bound values body names scope) else Err (Duplicate at)
+
 -- each value in the scope of the names before it
 abbrev pub star_parts : List (List ℕ) → List Resolver → Resolver → Meanings → Scope → Result (List Form) SpecError
 star_parts bound [] body names scope = body names (scope ++ bound) >>= λ b. Ok (b ∷ [])
@@ -145,7 +149,7 @@ abbrev pub resolve_step : Expression-F Resolver → Resolver
 resolve_step (expression.Literal at l) = λ names scope. Ok (literal_form at l)
 resolve_step (expression.Name at w) = λ names scope. name_form at (place scope w) (names w)
 resolve_step (expression.Special at s parts) = λ names scope. with_kind at (special_kind s) (forms parts names scope)
-resolve_step (expression.Let at bound values body) = λ names scope. if are_distinct bound then with_kind at kind.Let (let_parts bound values body names scope) else Err (Duplicate at)
+resolve_step (expression.Let at bound values body) = let_form at bound values body
 resolve_step (expression.LetStar at bound values body) = λ names scope. with_kind at kind.LetStar (star_parts bound values body names scope)
 resolve_step (expression.Builtin at b parts) = λ names scope. with_kind at (kind.Builtin b) (forms parts names scope)
 resolve_step (expression.Call at w parts) = λ names scope. call_form at (names w) (length parts) (forms parts names scope)

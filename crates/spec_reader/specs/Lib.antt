@@ -6,4 +6,5 @@ pub mod Calls
 pub mod Names
 pub mod Expressions
 pub mod Forms
+pub mod Bindings
 pub mod Programs

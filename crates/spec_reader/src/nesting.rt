@@ -38,8 +38,8 @@ pub struct Nest {
 }
 
 /// The data that the tokens spell.
-pub fn nested(alloc: Global, tokens: &[Located]) -> Result<Items<Datum>, SpecError>
-    ensures { Gives (λ ds. ds) result (nested tokens.now) }
+pub fn nested(alloc: Global, tokens: Vec<Located>) -> Result<Items<Datum>, SpecError>
+    ensures { Gives (λ ds. ds) result (nested tokens.items) }
 {
     let mut nest = Nest {
         levels: Vec::new(alloc),
@@ -64,20 +64,17 @@ fn finish(alloc: Global, nest: Nest) -> Result<Items<Datum>, SpecError>
     Ok(parts)
 }
 
-fn read(alloc: Global, nest: &mut Nest, located: &Located) -> Result<(), SpecError>
-    ensures { Gives (λ _. state nest.new) result (step (state nest.old) located.now) }
+fn read(alloc: Global, nest: &mut Nest, located: Located) -> Result<(), SpecError>
+    ensures { Gives (λ _. state nest.new) result (step (state nest.old) located) }
 {
-    let at = located.at;
-    match &located.token {
+    let Located { at, token } = located;
+    match token {
         Token::Open => open(alloc, nest, at),
         Token::Close => close(alloc, nest, at),
         Token::Apostrophe => mark(alloc, nest, at),
         Token::Text => put(alloc, nest, Datum::Text(at)),
-        Token::Number(n) => put(alloc, nest, Datum::Number(at, *n)),
-        Token::Word(word) => {
-            let word = Items::from_slice(alloc, word.as_slice())?;
-            put(alloc, nest, Datum::Word(at, word))
-        }
+        Token::Number(n) => put(alloc, nest, Datum::Number(at, n)),
+        Token::Word(word) => put(alloc, nest, Datum::Word(at, word)),
     }
 }
 

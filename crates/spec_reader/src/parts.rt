@@ -114,14 +114,14 @@ pub fn word_literal(alloc: Global, word: &[u8]) -> Option<Literal>
 fn numbers_in(alloc: Global, parts: &[Datum]) -> Result<Option<Items<i128>>, AllocError>
     ensures { IfOk result (λ found. found ≡ all_of (map (λ part. part.number) (map reading parts.now))) }
 {
-    let mut numbers = Items::new(alloc);
+    let mut numbers = Vec::with_capacity(alloc, parts.len())?;
     for part in parts {
         let Some(number) = number_of(part) else {
             return Ok(None);
         };
         numbers.push(number)?;
     }
-    Ok(Some(numbers))
+    Ok(Some(Items::from_vec(numbers)))
 }
 
 /// The only part.

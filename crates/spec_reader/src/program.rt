@@ -11,7 +11,8 @@ use crate::form::Form;
 use crate::meaning::{Names, names_of};
 use crate::names::{are_distinct, is_free};
 use crate::nesting::nested;
-use crate::resolve::{bind, count, resolve};
+use crate::resolve::{count, resolve};
+use crate::scope::Scope;
 use crate::token::tokens;
 use sqlite_items::Items;
 use std::alloc::{AllocError, Global};
@@ -104,7 +105,7 @@ pub fn read_spec(alloc: Global, bytes: &[u8]) -> Result<Program, SpecError>
     ensures { Gives (λ program. program) result (program_of bytes.now) }
 {
     let tokens = tokens(alloc, bytes)?;
-    let data = nested(alloc, &tokens)?;
+    let data = nested(alloc, tokens)?;
     let definitions = definitions(alloc, data.as_slice())?;
     program_with(alloc, definitions.as_slice())
 }
@@ -158,13 +159,13 @@ fn may_define(names: &Names<'_>, number: usize, name: &[u8]) -> bool
 fn body_of(alloc: Global, names: &Names<'_>, definition: &Definition) -> Result<Form, SpecError>
     ensures { Gives (λ form. form) result (body_of (meaning_in names.now) definition.now definition.now.formals) }
 {
-    let mut scope = Vec::new(alloc);
+    let mut scope = Scope::new(alloc);
     if let Some(formals) = &definition.formals {
         if !are_distinct(alloc, formals.as_slice())? {
             let at = definition.at;
             return Err(SpecError::Duplicate { at });
         }
-        bind(alloc, &mut scope, formals.as_slice())?;
+        scope.bind_all(formals.as_slice())?;
     }
     resolve(alloc, names, &mut scope, &definition.body)
 }

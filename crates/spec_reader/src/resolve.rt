@@ -1,6 +1,6 @@
 ghost use Rattle.std.specs.Prelude.{◌≡◌, ◌-◌, ◌^◌, [], ◌++◌, length, map, min, take, drop, Ok, IfOk, OnOk};
 ghost use Rattle.spec_reader.specs.Reading.{Gives};
-ghost use Rattle.spec_reader.specs.Forms.{meaning_in, place, count, literal_form, special_kind, form, name_form, constant_form, with_kind, forms, let_parts, star_parts, call_form, resolve};
+ghost use Rattle.spec_reader.specs.Forms.{meaning_in, count, literal_form, special_kind, form, name_form, constant_form, forms, let_parts, let_form, star_parts, call_form, resolve};
 
 use crate::error::SpecError;
 use crate::expression::{Expression, Literal, Special};
@@ -8,6 +8,7 @@ use crate::form::{Form, FormKind};
 use crate::meaning::{Meaning, Names};
 use crate::names::are_distinct;
 use crate::program::{ConstId, FunId};
+use crate::scope::Scope;
 use sqlite_items::Items;
 use std::alloc::{AllocError, Global};
 
@@ -18,66 +19,39 @@ pub fn count(number: usize) -> u32
     number.min(u32::MAX as usize) as u32
 }
 
-/// The place of a name's last binding among the variables.
-fn place(scope: &[Items<u8>], name: &[u8]) -> Option<usize>
-    ensures { result ≡ place scope.now name.now }
-{
-    let mut last = None;
-    for (at, first) in scope.iter().enumerate() {
-        if first.as_slice() == name {
-            last = Some(at);
-        }
-    }
-    last
-}
-
 /// The form that an expression is among the names of the text and the variables in scope.
 #[cycle(resolve)]
-pub fn resolve(
+pub fn resolve<'a>(
     alloc: Global,
     names: &Names<'_>,
-    scope: &mut Vec<Items<u8>>,
-    expression: &Expression,
+    scope: &mut Scope<'a>,
+    expression: &'a Expression,
 ) -> Result<Form, SpecError>
-    ensures form { Gives (λ f. f) result (resolve expression.now (meaning_in names.now) scope.old.items) }
-    ensures kept { OnOk result (scope.new.items ≡ scope.old.items) }
+    ensures form { Gives (λ f. f) result (resolve expression.now (meaning_in names.now) scope.old) }
+    ensures kept { OnOk result (scope.new ≡ scope.old) }
 {
     match expression {
         Expression::Literal(at, literal) => Ok(literal_form(alloc, *at, literal)?),
         Expression::Name(at, name) => {
-            let place = place(scope.as_slice(), name.as_slice());
+            let place = scope.place(name.as_slice());
             name_form(*at, place, names.meaning_of(name.as_slice()))
         }
         Expression::Special(at, special, parts) => {
             let parts = forms(alloc, names, scope, parts.as_slice())?;
             Ok(special_form(*at, *special, parts))
         }
-        Expression::Let(at, bound, values, body) => {
-            if !are_distinct(alloc, bound.as_slice())? {
-                return Err(SpecError::Duplicate { at: *at });
-            }
-            let parts = let_parts(
-                alloc,
-                names,
-                scope,
-                bound.as_slice(),
-                values.as_slice(),
-                body.get(),
-            )?;
-            Ok(Form {
-                at: *at,
-                kind: FormKind::Let(parts),
-            })
-        }
+        Expression::Let(at, bound, values, body) => let_form(
+            alloc,
+            names,
+            scope,
+            *at,
+            bound.as_slice(),
+            values.as_slice(),
+            body.get(),
+        ),
         Expression::LetStar(at, bound, values, body) => {
-            let parts = star_parts(
-                alloc,
-                names,
-                scope,
-                bound.as_slice(),
-                values.as_slice(),
-                body.get(),
-            )?;
+            let (bound, values) = (bound.as_slice(), values.as_slice());
+            let parts = star_parts(alloc, names, scope, bound, values, body.get())?;
             Ok(Form {
                 at: *at,
                 kind: FormKind::LetStar(parts),
@@ -152,72 +126,67 @@ fn constant_form(at: u32, meaning: Option<Meaning>) -> Result<Form, SpecError>
 /// The forms of some expressions.
 #[cycle(resolve)]
 #[tactic(auto, using(crate::proofs::Scopes::deepest_part))]
-fn forms(
+fn forms<'a>(
     alloc: Global,
     names: &Names<'_>,
-    scope: &mut Vec<Items<u8>>,
-    parts: &[Expression],
+    scope: &mut Scope<'a>,
+    parts: &'a [Expression],
 ) -> Result<Items<Form>, SpecError>
-    ensures forms { Gives (λ fs. fs) result (forms (map resolve parts.now) (meaning_in names.now) scope.old.items) }
-    ensures kept { OnOk result (scope.new.items ≡ scope.old.items) }
+    ensures forms { Gives (λ fs. fs) result (forms (map resolve parts.now) (meaning_in names.now) scope.old) }
+    ensures kept { OnOk result (scope.new ≡ scope.old) }
 {
-    let mut out = Items::new(alloc);
+    let mut out = Vec::with_capacity(alloc, parts.len())?;
     for part in parts {
         let form = resolve(alloc, names, scope, part)?;
         out.push(form)?;
     }
-    Ok(out)
+    Ok(Items::from_vec(out))
+}
+
+/// `let`, whose names are distinct.
+#[cycle(resolve)]
+fn let_form<'a>(
+    alloc: Global,
+    names: &Names<'_>,
+    scope: &mut Scope<'a>,
+    at: u32,
+    bound: &'a [Items<u8>],
+    values: &'a [Expression],
+    body: &'a Expression,
+) -> Result<Form, SpecError>
+    ensures form { Gives (λ f. f) result (let_form at bound.now (map resolve values.now) (resolve body.now) (meaning_in names.now) scope.old) }
+    ensures kept { OnOk result (scope.new ≡ scope.old) }
+{
+    if !are_distinct(alloc, bound)? {
+        return Err(SpecError::Duplicate { at });
+    }
+    let parts = let_parts(alloc, names, scope, bound, values, body)?;
+    Ok(Form {
+        at,
+        kind: FormKind::Let(parts),
+    })
 }
 
 /// The values and the body of a `let`.
 #[cycle(resolve)]
-fn let_parts(
+fn let_parts<'a>(
     alloc: Global,
     names: &Names<'_>,
-    scope: &mut Vec<Items<u8>>,
-    bound: &[Items<u8>],
-    values: &[Expression],
-    body: &Expression,
+    scope: &mut Scope<'a>,
+    bound: &'a [Items<u8>],
+    values: &'a [Expression],
+    body: &'a Expression,
 ) -> Result<Items<Form>, SpecError>
-    ensures forms { Gives (λ fs. fs) result (let_parts bound.now (map resolve values.now) (resolve body.now) (meaning_in names.now) scope.old.items) }
-    ensures kept { OnOk result (scope.new.items ≡ scope.old.items) }
+    ensures forms { Gives (λ fs. fs) result (let_parts bound.now (map resolve values.now) (resolve body.now) (meaning_in names.now) scope.old) }
+    ensures kept { OnOk result (scope.new ≡ scope.old) }
 {
     let mut out = forms(alloc, names, scope, values)?;
     let depth = scope.len();
-    bind(alloc, scope, bound)?;
+    scope.bind_all(bound)?;
     let body = resolve(alloc, names, scope, body)?;
     scope.truncate(depth);
     out.push(body)?;
     Ok(out)
-}
-
-/// Adds names to the variables in scope.
-pub fn bind(
-    alloc: Global,
-    scope: &mut Vec<Items<u8>>,
-    bound: &[Items<u8>],
-) -> Result<(), AllocError>
-    ensures { OnOk result (scope.new.items ≡ scope.old.items ++ bound.now) }
-{
-    for name in bound {
-        scope.push(Items::from_slice(alloc, name.as_slice())?)?;
-    }
-    Ok(())
-}
-
-/// Adds the name at a place among some, if one stands there, to the variables in scope.
-fn bind_at(
-    alloc: Global,
-    scope: &mut Vec<Items<u8>>,
-    bound: &[Items<u8>],
-    at: usize,
-) -> Result<(), AllocError>
-    ensures { OnOk result (scope.new.items ≡ scope.old.items ++ take 1 (drop at bound.now)) }
-{
-    if let Some(name) = bound.get(at) {
-        scope.push(Items::from_slice(alloc, name.as_slice())?)?;
-    }
-    Ok(())
 }
 
 /// What is left of some names from a place on.
@@ -230,25 +199,25 @@ fn from(bound: &[Items<u8>], at: usize) -> &[Items<u8>]
 /// The values and the body of a `let*`.
 #[cycle(resolve)]
 #[tactic(auto, using(crate::proofs::Scopes::deepest_part))]
-fn star_parts(
+fn star_parts<'a>(
     alloc: Global,
     names: &Names<'_>,
-    scope: &mut Vec<Items<u8>>,
-    bound: &[Items<u8>],
-    values: &[Expression],
-    body: &Expression,
+    scope: &mut Scope<'a>,
+    bound: &'a [Items<u8>],
+    values: &'a [Expression],
+    body: &'a Expression,
 ) -> Result<Items<Form>, SpecError>
-    ensures forms { Gives (λ fs. fs) result (star_parts bound.now (map resolve values.now) (resolve body.now) (meaning_in names.now) scope.old.items) }
-    ensures kept { OnOk result (scope.new.items ≡ scope.old.items) }
+    ensures forms { Gives (λ fs. fs) result (star_parts bound.now (map resolve values.now) (resolve body.now) (meaning_in names.now) scope.old) }
+    ensures kept { OnOk result (scope.new ≡ scope.old) }
 {
     let mut out = Items::new(alloc);
     let depth = scope.len();
     for (at, value) in values.iter().enumerate() {
         let form = resolve(alloc, names, scope, value)?;
         out.push(form)?;
-        bind_at(alloc, scope, bound, at)?;
+        scope.bind_at(bound, at)?;
     }
-    bind(alloc, scope, from(bound, values.len()))?;
+    scope.bind_all(from(bound, values.len()))?;
     let body = resolve(alloc, names, scope, body)?;
     scope.truncate(depth);
     out.push(body)?;
@@ -257,16 +226,16 @@ fn star_parts(
 
 /// A call of what a name means.
 #[cycle(resolve)]
-fn call_form(
+fn call_form<'a>(
     alloc: Global,
     names: &Names<'_>,
-    scope: &mut Vec<Items<u8>>,
+    scope: &mut Scope<'a>,
     at: u32,
     meaning: Option<Meaning>,
-    parts: &[Expression],
+    parts: &'a [Expression],
 ) -> Result<Form, SpecError>
-    ensures form { Gives (λ f. f) result (call_form at meaning (length parts.now) (forms (map resolve parts.now) (meaning_in names.now) scope.old.items)) }
-    ensures kept { OnOk result (scope.new.items ≡ scope.old.items) }
+    ensures form { Gives (λ f. f) result (call_form at meaning (length parts.now) (forms (map resolve parts.now) (meaning_in names.now) scope.old)) }
+    ensures kept { OnOk result (scope.new ≡ scope.old) }
 {
     let Some(meaning) = meaning else {
         return Err(SpecError::UnboundName { at });

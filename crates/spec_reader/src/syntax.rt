@@ -76,12 +76,12 @@ fn quote_form(alloc: Global, at: u32, parts: &[Datum]) -> Result<Expression, Spe
 fn expressions(alloc: Global, parts: &[Datum]) -> Result<Items<Expression>, SpecError>
     ensures { Gives (λ es. es) result (expressions (map reading parts.now)) }
 {
-    let mut out = Items::new(alloc);
+    let mut out = Vec::with_capacity(alloc, parts.len())?;
     for part in parts {
         let expression = expression(alloc, part)?;
         out.push(expression)?;
     }
-    Ok(out)
+    Ok(Items::from_vec(out))
 }
 
 /// A list as an expression.

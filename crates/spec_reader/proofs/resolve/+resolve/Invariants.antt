@@ -5,15 +5,15 @@ use Rattle.spec_reader.proofs.resolve.+resolve.Given as goal
 
 abbrev pub invariant-forms-loop-part : goal.invariant-forms-loop-part
 invariant-forms-loop-part l = record {
-  so_far : with_front l.out (forms (map resolve (drop l.part-index l.parts)) (meaning_in l.names) l.initial.scope.items) ≡ forms (map resolve l.parts) (meaning_in l.names) l.initial.scope.items;
-  kept : l.scope.items ≡ l.initial.scope.items;
+  so_far : with_front l.out.items (forms (map resolve (drop l.part-index l.parts)) (meaning_in l.names) l.initial.scope) ≡ forms (map resolve l.parts) (meaning_in l.names) l.initial.scope;
+  kept : l.scope ≡ l.initial.scope;
 }
 
 abbrev pub invariant-star_parts-loop-at : goal.invariant-star_parts-loop-at
 invariant-star_parts-loop-at l = record {
-  so_far : with_front l.out (star_parts (drop l.at l.bound) (map resolve (drop l.at l.values)) (resolve l.body) (meaning_in l.names) l.scope.items) ≡ star_parts l.bound (map resolve l.values) (resolve l.body) (meaning_in l.names) l.initial.scope.items;
-  kept : take l.depth l.scope.items ≡ l.initial.scope.items;
-  depth : l.depth ≡ length l.initial.scope.items;
+  so_far : with_front l.out (star_parts (drop l.at l.bound) (map resolve (drop l.at l.values)) (resolve l.body) (meaning_in l.names) l.scope) ≡ star_parts l.bound (map resolve l.values) (resolve l.body) (meaning_in l.names) l.initial.scope;
+  kept : take l.depth l.scope ≡ l.initial.scope;
+  depth : l.depth ≡ length l.initial.scope;
 }
 
 -- The measure is the depth of the expressions; among functions on expressions of one depth a caller ranks above
@@ -33,3 +33,6 @@ decreases-let_parts l = 4 * max (depth_of_all l.values.now) (depth l.body.now) +
 
 abbrev pub decreases-star_parts : goal.decreases-star_parts
 decreases-star_parts l = 4 * max (depth_of_all l.values.now) (depth l.body.now) + 2
+
+abbrev pub decreases-let_form : goal.decreases-let_form
+decreases-let_form l = 4 * max (depth_of_all l.values.now) (depth l.body.now) + 3

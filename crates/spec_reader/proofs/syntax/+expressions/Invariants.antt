@@ -5,7 +5,7 @@ use Rattle.spec_reader.specs.Expressions.{reading, expressions, clauses, bound_v
 use Rattle.spec_reader.proofs.syntax.+expressions.Given as goal
 
 abbrev pub invariant-expressions-loop-part : goal.invariant-expressions-loop-part
-invariant-expressions-loop-part l = with_front l.out (expressions (map reading (drop l.part-index l.parts))) ≡ expressions (map reading l.parts)
+invariant-expressions-loop-part l = with_front l.out.items (expressions (map reading (drop l.part-index l.parts))) ≡ expressions (map reading l.parts)
 
 abbrev pub invariant-clauses-loop-part : goal.invariant-clauses-loop-part
 invariant-clauses-loop-part l = with_front l.out (clauses l.at (map reading (drop l.part-index l.parts))) ≡ clauses l.at (map reading l.parts)
