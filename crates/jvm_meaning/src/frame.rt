@@ -18,7 +18,11 @@ pub struct Frame {
 
 impl Frame {
     /// A frame without local variables and operands, which takes no memory.
-    pub fn new(alloc: Global) -> Frame {
+    pub fn new(alloc: Global) -> Frame
+        ensures place { result.pc ≡ 0 }
+        ensures locals { result.locals ≡ [] }
+        ensures stack { result.stack ≡ [] }
+    {
         Frame {
             method: MethodId(0),
             pc: 0,

@@ -3,12 +3,8 @@ ghost use Rattle.jvm_meaning.specs.Machine.{TakesStep};
 ghost use Rattle.jvm_meaning.specs.Runs.{start_heap, initialiser_of, start, start_by, run_from, run_end};
 
 use crate::arguments::{arguments, parameter_arrays};
-use crate::arrays::Arrays;
-use crate::callers::Callers;
-use crate::cells::Cells;
 use crate::closing::start;
 use crate::fields::start_values;
-use crate::frame::Frame;
 use crate::heap::Heap;
 use crate::state::{Limits, State, Waiting};
 use crate::step::step;
@@ -30,16 +26,7 @@ impl Machine {
     pub fn new(alloc: Global) -> Machine {
         Machine {
             alloc,
-            state: State {
-                frame: Frame::new(alloc),
-                callers: Callers::new(alloc),
-                waiting: None,
-                heap: Heap {
-                    arrays: Arrays::new(alloc),
-                    statics: Cells::new(alloc),
-                    made: 0,
-                },
-            },
+            state: State::new(alloc),
         }
     }
 
@@ -70,7 +57,7 @@ impl Machine {
 }
 
 /// Makes a state the first one of a run; the run may end at once.
-fn begin_run(
+pub fn begin_run(
     alloc: Global,
     class: &ClassFile,
     method: MethodId,

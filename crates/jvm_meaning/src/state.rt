@@ -1,9 +1,14 @@
+ghost use Rattle.std.specs.Prelude.{◌≡◌, []};
+
+use crate::arrays::Arrays;
 use crate::callers::Callers;
+use crate::cells::Cells;
 use crate::frame::Frame;
 use crate::heap::Heap;
 use crate::value::Value;
 use class_reader::MethodId;
 use sqlite_items::Items;
+use std::alloc::Global;
 
 /// A state of a run: the frame that is open, its callers, and what they share.
 #[derive(Drop)]
@@ -13,6 +18,28 @@ pub struct State {
     /// The method that begins when the initialiser returns; nothing where the initialiser isn't running.
     pub waiting: Option<Waiting>,
     pub heap: Heap,
+}
+
+impl State {
+    /// A state that holds nothing yet, which takes no memory.
+    pub fn new(alloc: Global) -> State
+        ensures callers { result.callers ≡ [] }
+        ensures waiting { result.waiting ≡ None }
+        ensures arrays { result.heap.arrays ≡ [] }
+        ensures statics { result.heap.statics ≡ [] }
+        ensures made { result.heap.made ≡ 0 }
+    {
+        State {
+            frame: Frame::new(alloc),
+            callers: Callers::new(alloc),
+            waiting: None,
+            heap: Heap {
+                arrays: Arrays::new(alloc),
+                statics: Cells::new(alloc),
+                made: 0,
+            },
+        }
+    }
 }
 
 /// A method that waits for the initialiser, with its arguments.
@@ -30,7 +57,7 @@ pub struct Limits {
 }
 
 /// A place of a method's code.
-#[derive(Clone, Copy)]
+#[derive(Clone, Copy, Debug, PartialEq, Eq)]
 pub struct Site {
     pub method: MethodId,
     pub pc: u32,
