@@ -36,15 +36,14 @@ ult_zero g n a b ch is const view = at_node g n (Ult a b) (one_plan (step (Const
     let y : slice_index values b.0 ≡ 0 = second_const g (Ult a b) ch 0 input values refl v0 const h in
     rw y (sym (laws.ult_zero (slice_index values a.0))))
 
-pub bit_is_one : (g : Graph) (n : Node) (a b : NodeId) (ch : List (Option Node)) → n ≡ Eq a b → IsConst (slice_index_or ch 1 None) 1 → Some 1 ≡ slice_get g.widths a.0 → IsView g n ch → SameValue g n (same_plan a)
-bit_is_one g n a b ch is const width view = at_node g n (Eq a b) (same_plan a) ch is view (λ v0 input values h.
-    let y : slice_index values b.0 ≡ 1 = second_const g (Eq a b) ch 1 input values refl v0 const h in
-    let f = h.words a.0 1 (sym width) in
-    rw y (sym (laws.bit_is_one (slice_index values a.0) f.within)))
-
 -- equality as a number
 abbrev equal : ℕ → ℕ → ℕ
 equal x y = one_if (nat_eq x y)
+
+pub bit_is_one : (g : Graph) (n : Node) (a b x : NodeId) (ch : List (Option Node)) → n ≡ Eq a b → IsConstBeside g a b x 1 → Some 1 ≡ slice_get g.widths x.0 → IsView g n ch → SameValue g n (same_plan x)
+bit_is_one g n a b x ch is const width view = at_node g n (Eq a b) (same_plan x) ch is view (λ v0 input values h.
+    let f = h.words x.0 1 (sym width) in
+    sym (beside_const equal laws.eq_comm g input values a b x 1 h const ∙ laws.bit_is_one (slice_index values x.0) f.within))
 
 pub bit_is_zero : (g : Graph) (n : Node) (a b x : NodeId) (ch : List (Option Node)) → n ≡ Eq a b → IsConstBeside g a b x 0 → Some 1 ≡ slice_get g.widths x.0 → IsView g n ch → SameValue g n (one_plan (step (Not x) (Old x) (New 0) (New 0)))
 bit_is_zero g n a b x ch is const width view = at_node g n (Eq a b) (one_plan (step (Not x) (Old x) (New 0) (New 0))) ch is view (λ v0 input values h.

@@ -78,12 +78,13 @@ fn bit_is_one(dag: &Dag, view: NodeView) -> Option<Plan>
     requires { IsView dag.now view.node view.children }
     ensures { KeepsIf dag.now view.node result }
 {
-    let Node::Eq(a, _) = view.node else {
+    let Node::Eq(a, b) = view.node else {
         return None;
     };
-    let width = dag.width_at(a)?;
-    if width == 1 && is_const(view.children[1], 1) {
-        checked(dag, view.node, Plan::same(a))
+    let (x, value) = constant_beside(dag, a, b)?;
+    let width = dag.width_at(x)?;
+    if width == 1 && value == 1 {
+        checked(dag, view.node, Plan::same(x))
     } else {
         None
     }

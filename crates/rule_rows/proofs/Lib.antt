@@ -1,0 +1,2 @@
+mod PlanTexts
+mod NodeTexts
