@@ -2,6 +2,7 @@ pub mod Over
 pub mod Definitions
 pub mod Tables
 pub mod Growing
+pub mod Folding
 pub mod Arithmetic
 pub mod Spells
 pub mod ProductLemmas

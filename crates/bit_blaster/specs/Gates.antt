@@ -4,7 +4,7 @@
 -- of its models: its literals are the constants.
 use Rattle.std.specs.Prelude.{◌≡◌, ℕ, ◌+◌, ◌*◌, ◌<◌, ◌≤◌, ◌^◌, Bool, true, not, cond, ◌&&◌, ◌||◌, List, [], ◌∷◌, length}
 use mathlib.Core.Bool.{beq}
-use Rattle.cnf_clauses.specs.Literal.{Literal, value_of}
+use Rattle.cnf_clauses.specs.Literal.{Literal, opposite, value_of}
 use Rattle.cnf_clauses.specs.Formula.{Cnf}
 use Rattle.cnf_clauses.specs.Clause.{all_met, IsOver}
 
@@ -40,7 +40,7 @@ pub record Grows (old new : Cnf) (cost : ℕ) : Type 0 where
   pub kept : (v : ℕ → Bool) → Meets v new → Meets v old
   pub free : (v : ℕ → Bool) → Meets v old → (w : ℕ → Bool) × Agrees old.variables v w × Meets w new
 
--- a literal that has this value in each model
+-- a literal that has this value in each model: at a fresh variable, or one that stood there before
 pub record IsGate (old new : Cnf) (cost : ℕ) (l : Literal) (value : (ℕ → Bool) → Bool) : Type 0 where
   pub grows : Grows old new cost
   pub inside : l.var < new.variables
@@ -50,6 +50,10 @@ pub record IsGate (old new : Cnf) (cost : ℕ) (l : Literal) (value : (ℕ → B
 abbrev pub bits : (ℕ → Bool) → List Literal → List Bool
 bits v [] = []
 bits v (l ∷ ls) = value_of v l ∷ bits v ls
+
+-- a literal, or its opposite
+abbrev pub signed : Bool → Literal → Literal
+signed same l = cond same l (opposite l)
 
 abbrev pub choose : Bool → Bool → Bool → Bool
 choose c a b = cond c a b

@@ -1,22 +1,38 @@
-//! Gates: a fresh variable, and the clauses that give it the gate's value.
+//! Gates: a literal that stands there already where one has the gate's value, else a plain gate.
 
-ghost use Rattle.std.specs.Prelude.{◌≡◌, false, ◌+◌, ◌<◌, ◌^◌, ◌&&◌, IfOk, length};
+ghost use Rattle.std.specs.Prelude.{◌≡◌, ◌<◌, ◌&&◌, IfOk, IfSome, cond, true};
 ghost use Rattle.cnf_clauses.specs.Literal.{value_of};
-ghost use Rattle.cnf_clauses.specs.Formula.{IsFormula};
-ghost use Rattle.bit_blaster.specs.Gates.{HasRoom, IsGate, differ as differ_of, choose as choose_of, most as most_of, odd as odd_of};
+ghost use Rattle.bit_blaster.specs.Gates.{HasRoom, IsGate, constant as constant_of, signed, differ as differ_of, choose as choose_of, most as most_of, odd as odd_of};
 
+use crate::constants::constant;
+use crate::plain;
 use axe_io::Memory;
 use cnf_clauses::{Formula, Lit};
 
-/// The literal of a fresh variable.
-pub fn fresh(f: &mut Formula) -> Lit
-    requires { f.old.variables < 2 ^ 31 }
-    ensures literal { result ≡ record { var = f.old.variables; negated = false } }
-    ensures formula { f.new ≡ record f.old { variables = f.old.variables + 1 } }
-    ensures known { IsFormula f.old.variables f.old.clauses }
+/// Whether `b` is `a` or its opposite, or None where it is neither.
+fn related(a: Lit, b: Lit) -> Option<bool>
+    ensures { IfSome result (λ same. b ≡ signed same a) }
 {
-    let _variables = f.variables();
-    Lit::new(f.fresh(), false)
+    if a == b {
+        Some(true)
+    } else if a.opposite() == b {
+        Some(false)
+    } else {
+        None
+    }
+}
+
+/// The value of a constant, or None where the literal isn't one.
+fn known(l: Lit) -> Option<bool>
+    ensures { IfSome result (λ value. l ≡ constant_of value) }
+{
+    related(constant(true), l)
+}
+
+fn pick(first: bool, a: Lit, b: Lit) -> Lit
+    ensures { result ≡ cond first a b }
+{
+    if first { a } else { b }
 }
 
 /// True where both are.
@@ -26,14 +42,16 @@ pub fn and(f: &mut Formula, a: Lit, b: Lit) -> Result<Lit, Memory>
     requires b_in { b.var < f.old.variables }
     ensures { IfOk result (λ l. IsGate f.old f.new 1 l (λ v. (value_of v a) && (value_of v b))) }
 {
-    let o = fresh(f);
-    let not_o = o.opposite();
-    let not_a = a.opposite();
-    let not_b = b.opposite();
-    f.add(&[not_o, a])?;
-    f.add(&[not_o, b])?;
-    f.add(&[o, not_a, not_b])?;
-    Ok(o)
+    if let Some(same) = related(a, b) {
+        return Ok(pick(same, a, constant(false)));
+    }
+    if let Some(on) = known(a) {
+        return Ok(pick(on, b, constant(false)));
+    }
+    if let Some(on) = known(b) {
+        return Ok(pick(on, a, constant(false)));
+    }
+    plain::and(f, a, b)
 }
 
 /// True where one is and the other isn't.
@@ -43,15 +61,41 @@ pub fn differ(f: &mut Formula, a: Lit, b: Lit) -> Result<Lit, Memory>
     requires b_in { b.var < f.old.variables }
     ensures { IfOk result (λ l. IsGate f.old f.new 1 l (λ v. differ_of (value_of v a) (value_of v b))) }
 {
-    let o = fresh(f);
-    let not_o = o.opposite();
-    let not_a = a.opposite();
-    let not_b = b.opposite();
-    f.add(&[not_o, a, b])?;
-    f.add(&[not_o, not_a, not_b])?;
-    f.add(&[o, not_a, b])?;
-    f.add(&[o, a, not_b])?;
-    Ok(o)
+    if let Some(same) = related(a, b) {
+        return Ok(pick(same, constant(false), constant(true)));
+    }
+    if let Some(on) = known(a) {
+        return Ok(pick(on, b.opposite(), b));
+    }
+    if let Some(on) = known(b) {
+        return Ok(pick(on, a.opposite(), a));
+    }
+    plain::differ(f, a, b)
+}
+
+/// True where most of the two and `on` are: one of them, or both.
+fn most_with(f: &mut Formula, on: bool, a: Lit, b: Lit) -> Result<Lit, Memory>
+    requires room { HasRoom f.old 1 }
+    requires a_in { a.var < f.old.variables }
+    requires b_in { b.var < f.old.variables }
+    ensures { IfOk result (λ l. IsGate f.old f.new 1 l (λ v. most_of on (value_of v a) (value_of v b))) }
+{
+    if !on {
+        return and(f, a, b);
+    }
+    let neither = and(f, a.opposite(), b.opposite())?;
+    Ok(neither.opposite())
+}
+
+/// True where one of the two and `on`, or all three, are.
+fn odd_with(f: &mut Formula, on: bool, a: Lit, b: Lit) -> Result<Lit, Memory>
+    requires room { HasRoom f.old 1 }
+    requires a_in { a.var < f.old.variables }
+    requires b_in { b.var < f.old.variables }
+    ensures { IfOk result (λ l. IsGate f.old f.new 1 l (λ v. odd_of on (value_of v a) (value_of v b))) }
+{
+    let o = differ(f, a, b)?;
+    Ok(pick(on, o.opposite(), o))
 }
 
 /// `a` where `c` is true, and `b` elsewhere.
@@ -62,16 +106,19 @@ pub fn choose(f: &mut Formula, c: Lit, a: Lit, b: Lit) -> Result<Lit, Memory>
     requires b_in { b.var < f.old.variables }
     ensures { IfOk result (λ l. IsGate f.old f.new 1 l (λ v. choose_of (value_of v c) (value_of v a) (value_of v b))) }
 {
-    let o = fresh(f);
-    let not_o = o.opposite();
-    let not_c = c.opposite();
-    let not_a = a.opposite();
-    let not_b = b.opposite();
-    f.add(&[not_c, not_a, o])?;
-    f.add(&[not_c, a, not_o])?;
-    f.add(&[c, not_b, o])?;
-    f.add(&[c, b, not_o])?;
-    Ok(o)
+    if let Some(on) = known(c) {
+        return Ok(pick(on, a, b));
+    }
+    if a == b {
+        return Ok(a);
+    }
+    if let Some(on) = known(a) {
+        return most_with(f, on, pick(on, c, c.opposite()), b);
+    }
+    if let Some(on) = known(b) {
+        return most_with(f, on, pick(on, c.opposite(), c), a);
+    }
+    plain::choose(f, c, a, b)
 }
 
 /// True where two or three are.
@@ -82,18 +129,25 @@ pub fn most(f: &mut Formula, a: Lit, b: Lit, c: Lit) -> Result<Lit, Memory>
     requires c_in { c.var < f.old.variables }
     ensures { IfOk result (λ l. IsGate f.old f.new 1 l (λ v. most_of (value_of v a) (value_of v b) (value_of v c))) }
 {
-    let o = fresh(f);
-    let not_o = o.opposite();
-    let not_a = a.opposite();
-    let not_b = b.opposite();
-    let not_c = c.opposite();
-    f.add(&[not_a, not_b, o])?;
-    f.add(&[not_a, not_c, o])?;
-    f.add(&[not_b, not_c, o])?;
-    f.add(&[a, b, not_o])?;
-    f.add(&[a, c, not_o])?;
-    f.add(&[b, c, not_o])?;
-    Ok(o)
+    if let Some(same) = related(a, b) {
+        return Ok(pick(same, a, c));
+    }
+    if let Some(same) = related(a, c) {
+        return Ok(pick(same, a, b));
+    }
+    if let Some(same) = related(b, c) {
+        return Ok(pick(same, b, a));
+    }
+    if let Some(on) = known(a) {
+        return most_with(f, on, b, c);
+    }
+    if let Some(on) = known(b) {
+        return most_with(f, on, a, c);
+    }
+    if let Some(on) = known(c) {
+        return most_with(f, on, a, b);
+    }
+    plain::most(f, a, b, c)
 }
 
 /// True where one or three are.
@@ -104,18 +158,23 @@ pub fn odd(f: &mut Formula, a: Lit, b: Lit, c: Lit) -> Result<Lit, Memory>
     requires c_in { c.var < f.old.variables }
     ensures { IfOk result (λ l. IsGate f.old f.new 1 l (λ v. odd_of (value_of v a) (value_of v b) (value_of v c))) }
 {
-    let o = fresh(f);
-    let not_o = o.opposite();
-    let not_a = a.opposite();
-    let not_b = b.opposite();
-    let not_c = c.opposite();
-    f.add(&[not_o, a, b, c])?;
-    f.add(&[not_o, a, not_b, not_c])?;
-    f.add(&[not_o, not_a, b, not_c])?;
-    f.add(&[not_o, not_a, not_b, c])?;
-    f.add(&[o, not_a, not_b, not_c])?;
-    f.add(&[o, not_a, b, c])?;
-    f.add(&[o, a, not_b, c])?;
-    f.add(&[o, a, b, not_c])?;
-    Ok(o)
+    if let Some(same) = related(a, b) {
+        return Ok(pick(same, c, c.opposite()));
+    }
+    if let Some(same) = related(a, c) {
+        return Ok(pick(same, b, b.opposite()));
+    }
+    if let Some(same) = related(b, c) {
+        return Ok(pick(same, a, a.opposite()));
+    }
+    if let Some(on) = known(a) {
+        return odd_with(f, on, b, c);
+    }
+    if let Some(on) = known(b) {
+        return odd_with(f, on, a, c);
+    }
+    if let Some(on) = known(c) {
+        return odd_with(f, on, a, b);
+    }
+    plain::odd(f, a, b, c)
 }

@@ -8,7 +8,7 @@ ghost use Rattle.bit_blaster.specs.NodeBits.{IsNodeBits, IsFresh, AreNarrow, wid
 ghost use Rattle.dag.specs.Node.{same_width, test_width, choice_width, cut_width, joined_width, widened_width, shifted_width};
 
 use crate::constants::constants;
-use crate::gates::fresh;
+use crate::plain::fresh;
 use crate::products::times;
 use crate::shifts::shifted;
 use crate::wires::{extended, joined, part, signed_below, single};

@@ -6,7 +6,8 @@
 //! charges are summed before anything is made.
 //!
 //! From the bottom up:
-//! - `gates`: a fresh variable with the clauses that tie it to its operands; `constants`: the two constant literals
+//! - `plain`: a fresh variable with the clauses that tie it to its operands; `constants`: the two constant literals
+//! - `gates`: the same where no constant and no literal that stands there already will do
 //! - `cells`: one bit of each word operation, and the ripple that joins cells to words
 //! - `wires`: what costs nothing; `words`, `products`, `shifts`: operations on words
 //! - `kinds`: the bits of a node by its kind; `charges`: the sum of charges; `circuits`: the loop over a circuit
@@ -20,8 +21,11 @@ mod circuits;
 mod constants;
 mod gates;
 mod kinds;
+mod plain;
 mod products;
 mod shifts;
+#[cfg(test)]
+mod tests;
 mod wires;
 mod words;
 

@@ -1,26 +1,11 @@
-use Rattle.std.proofs.Common.{append_assoc, [], ◌∷◌, false, refl, arith}
-use Rattle.cnf_clauses.specs.Literal.{Literal, value_of, opposite}
-use Rattle.cnf_clauses.specs.Clause.{all_met}
-use Rattle.cnf_clauses.proofs.Meeting.{value_of-opposite}
-use Rattle.bit_blaster.specs.Gates.{choose}
-use Rattle.bit_blaster.proofs.Definitions.{gate, value_of-agrees}
-use Rattle.bit_blaster.proofs.Tables.{choose_table}
+use Rattle.std.proofs.lemmas.Result.{IfOk-weaker}
+use Rattle.cnf_clauses.specs.Literal.{value_of}
+use Rattle.bit_blaster.specs.Gates.{choose, most}
+use Rattle.bit_blaster.proofs.Folding.{gate_likewise, choose_first, choose_second}
 use Rattle.bit_blaster.proofs.gates.choose.Goals as goal
 
-pub returns : goal.returns
-unfolding all_met
-returns q =
-    let o : Literal = record { var = q.args.f.now.variables; negated = false } in
-    let c : Literal = q.args.c in
-    let a : Literal = q.args.a in
-    let b : Literal = q.args.b in
-    rw q.fresh-o.ensures.literal (gate q.args.f.now q.add-4.new.self o ((opposite c ∷ opposite a ∷ o ∷ []) ∷ (opposite c ∷ a ∷ opposite o ∷ []) ∷ (c ∷ opposite b ∷ o ∷ []) ∷ (c ∷ b ∷ opposite o ∷ []) ∷ []) (λ v. choose (value_of v c) (value_of v a) (value_of v b))
-    record {
-      variables = rw (q.in_ok-add-4.ensures.ok, q.in_ok-add-3.ensures.ok, q.in_ok-add-2.ensures.ok, q.in_ok-add.ensures.ok, q.fresh-o.ensures.formula) (omega arith);
-      clauses = rw (q.in_ok-add-4.ensures.ok, q.in_ok-add-3.ensures.ok, q.in_ok-add-2.ensures.ok, q.in_ok-add.ensures.ok, q.fresh-o.ensures.formula, q.opposite-not_o.ensures, q.opposite-not_c.ensures, q.opposite-not_a.ensures, q.opposite-not_b.ensures, q.fresh-o.ensures.literal) (simp append_assoc);
-      eight = omega arith;
-      at = refl;
-      over = q.fresh-o.ensures.known.over;
-      local = λ v w h. rw (value_of-agrees _ v w c h q.requires.c_in, value_of-agrees _ v w a h q.requires.a_in, value_of-agrees _ v w b h q.requires.b_in) refl;
-      table = λ v. rw (value_of-opposite v c, value_of-opposite v a, value_of-opposite v b) (choose_table (v q.args.f.now.variables) (value_of v c) (value_of v a) (value_of v b));
-    })
+pub returns-in-Some-known : goal.returns-in-Some-known
+returns-in-Some-known c = IfOk-weaker c.most_with.result _ _ (λ l g. gate_likewise c.args.f.now c.most_with.new.f 1 l (λ v. most c.in-Some-known.on (value_of v c.pick-in-Some-known.result) (value_of v c.args.b)) (λ v. choose (value_of v c.args.c) (value_of v c.args.a) (value_of v c.args.b)) c.requires.room (λ v on. choose_first v c.in-Some-known.on c.args.c c.args.a c.args.b c.pick-in-Some-known.result c.opposite.result on c.in-Some-known.ensures c.opposite.ensures c.pick-in-Some-known.ensures) g) c.most_with.ensures
+
+pub returns-in-Some-known-2 : goal.returns-in-Some-known-2
+returns-in-Some-known-2 c = IfOk-weaker c.most_with-in-Some-known-2.result _ _ (λ l g. gate_likewise c.args.f.now c.most_with-in-Some-known-2.new.f 1 l (λ v. most c.in-Some-known-2.on (value_of v c.pick-in-Some-known-2.result) (value_of v c.args.a)) (λ v. choose (value_of v c.args.c) (value_of v c.args.a) (value_of v c.args.b)) c.requires.room (λ v on. choose_second v c.in-Some-known-2.on c.args.c c.args.a c.args.b c.pick-in-Some-known-2.result c.opposite-in-Some-known-2.result on c.in-Some-known-2.ensures c.opposite-in-Some-known-2.ensures c.pick-in-Some-known-2.ensures) g) c.most_with-in-Some-known-2.ensures

@@ -4,7 +4,7 @@ use Rattle.cnf_clauses.specs.Clause.{all_met}
 use Rattle.cnf_clauses.proofs.Meeting.{value_of-opposite}
 use Rattle.bit_blaster.proofs.Definitions.{gate, value_of-agrees}
 use Rattle.bit_blaster.proofs.Tables.{and_table}
-use Rattle.bit_blaster.proofs.gates.and.Goals as goal
+use Rattle.bit_blaster.proofs.plain.and.Goals as goal
 
 pub returns : goal.returns
 unfolding all_met

@@ -5,7 +5,7 @@ use Rattle.cnf_clauses.proofs.Meeting.{value_of-opposite}
 use Rattle.bit_blaster.specs.Gates.{differ}
 use Rattle.bit_blaster.proofs.Definitions.{gate, value_of-agrees}
 use Rattle.bit_blaster.proofs.Tables.{differ_table}
-use Rattle.bit_blaster.proofs.gates.differ.Goals as goal
+use Rattle.bit_blaster.proofs.plain.differ.Goals as goal
 
 pub returns : goal.returns
 unfolding all_met
