@@ -69,11 +69,11 @@ one_rise ids j k x rising at there = elim (cases_lt j k) [
 ]
 
 -- a leaf of the graph at the place that a view's leaf stands for
-record IsGraphLeaf (g : Graph) (ids : List ℕ) (k w i : ℕ) : Type 0 where
-  id : (x : ℕ) × (slice_get ids k ≡ Some x) × (slice_get g.nodes x ≡ Some (Leaf w i))
-  width : slice_get (leaves_of g) i ≡ Some w
+pub record IsGraphLeaf (g : Graph) (ids : List ℕ) (k w i : ℕ) : Type 0 where
+  pub id : (x : ℕ) × (slice_get ids k ≡ Some x) × (slice_get g.nodes x ≡ Some (Leaf w i))
+  pub width : slice_get (leaves_of g) i ≡ Some w
 
-graph_leaf : (g : Graph) (table : List ℕ) (nodes : List Node) (ws ids : List ℕ) (k w i : ℕ) → IsGraph g → ((j : ℕ) (n : Node) → slice_get g.nodes j ≡ Some n → fits_width g n ≡ slice_get g.widths j) → length ids ≡ length nodes
+pub graph_leaf : (g : Graph) (table : List ℕ) (nodes : List Node) (ws ids : List ℕ) (k w i : ℕ) → IsGraph g → ((j : ℕ) (n : Node) → slice_get g.nodes j ≡ Some n → fits_width g n ≡ slice_get g.widths j) → length ids ≡ length nodes
     → ((j : ℕ) (m : Node) → slice_get nodes j ≡ Some m → (n : Node) × Stands g table ids m (slice_index ws j) (slice_index ids j) n) → slice_get nodes k ≡ Some (Leaf w i) → IsGraphLeaf g ids k w i
 graph_leaf g table nodes ws ids k w i is fits size stands at =
     let s = stands k (Leaf w i) at in
