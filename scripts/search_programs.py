@@ -7,15 +7,15 @@ import tempfile
 import time
 
 ROOT = os.path.dirname(os.path.dirname(os.path.abspath(__file__)))
-PROGRAM = os.path.join(ROOT, "crates", "search_dimacs", "out", "search_dimacs")
 
 
-def built_program():
-    """The search, which is built where it isn't there."""
-    if not os.path.exists(PROGRAM):
-        folder = os.path.join(ROOT, "crates", "search_dimacs")
+def built_program(name="search_dimacs"):
+    """A program of this repository, by default the search. It is built where it isn't there."""
+    folder = os.path.join(ROOT, "crates", name)
+    program = os.path.join(folder, "out", name)
+    if not os.path.exists(program):
         subprocess.run(["rt", "run"], cwd=folder, stdin=subprocess.DEVNULL, stdout=subprocess.DEVNULL, check=True)
-    return PROGRAM
+    return program
 
 
 def packaged_solver():
