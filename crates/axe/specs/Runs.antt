@@ -1,15 +1,20 @@
 -- How a run of the program ends.
 use Rattle.std.specs.Prelude.{◌≡◌, ◌⊎◌, ℕ, List, [], take, Option}
 use Rattle.axe_io.specs.Ends.{Told, Rose, Appends}
+use Rattle.axe_words.specs.declared.job.WordsError.TheVariants as words_error
+use Rattle.clap.specs.declared.error.kind.ErrorKind.TheVariants.{InvalidValue}
 use Rattle.verdict_text.specs.Texts.{text_of}
 use Rattle.verdict_text.specs.declared.verdict.Verdict.{Verdict}
 use Rattle.verdict_text.specs.declared.verdict.Verdict.TheVariants as verdict
+use Rattle.verdict_text.specs.declared.verdict.Refusal.TheVariants.{Words as BadWords}
 use Rattle.axe.specs.declared.parts.Stop.{Stop}
 use Rattle.axe.specs.declared.parts.Stop.TheVariants as stop
 use Rattle.axe.specs.declared.answer.Answer as code
 use Rattle.axe.specs.declared.status.Status.{Status}
 use Rattle.axe.specs.declared.status.Status.TheVariants.{Equal, Different, Unknown, Refused, ReadFault, WriteFault, NoMemory}
-use Rattle.axe.specs.Answers.{Answer, IsRight, LacksContent}
+use Rattle.axe.specs.declared.status.NoWords.{NoWords}
+use Rattle.axe.specs.declared.status.NoWords.TheVariants.{NotText, OutOfMemory}
+use Rattle.axe.specs.Answers.{Answer, IsRight, LacksContent, refusal}
 
 -- the status of a verdict
 abbrev pub status_of : Verdict → Status
@@ -64,3 +69,9 @@ Wrote answer old new before now status = (status ≡ status_of answer.verdict) �
 abbrev pub RunEnds : List (List ℕ) → (List ℕ → Told) → ℕ → ℕ → Option (List ℕ) → Option (List ℕ) → ℕ → ℕ → Status → Type 0
 RunEnds words holds read_before read_now old new before now status =
     NoAnswer words holds read_before read_now old new status ⊎ ((answer : Answer) × IsRight words holds answer × Wrote answer old new before now status)
+
+-- what the program writes where the system gave it no words: a word that is no text is refused as one that isn't of the
+-- command's form
+abbrev pub WroteWithoutWords : NoWords → Option (List ℕ) → Option (List ℕ) → ℕ → ℕ → Status → Type 0
+WroteWithoutWords NotText old new before now status = Wrote (refusal (BadWords (words_error.Refused InvalidValue))) old new before now status
+WroteWithoutWords OutOfMemory old new before now status = (status ≡ NoMemory) × Appends old new []

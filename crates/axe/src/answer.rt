@@ -23,7 +23,7 @@ pub struct Answer {
 }
 
 /// The answer of a refusal.
-fn refused(cause: Refusal) -> Answer
+pub fn refused(cause: Refusal) -> Answer
     ensures { answer result ≡ refusal cause }
 {
     Answer {

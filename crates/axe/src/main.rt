@@ -17,7 +17,8 @@ mod status;
 #[cfg(test)]
 mod tests;
 
-use crate::run::run;
+use crate::run::{run, without_words};
+use crate::status::NoWords;
 use axe_io::{FileStore, OpenGate, OutputSink};
 use std::process::ExitCode;
 use std::{env, io};
@@ -31,10 +32,23 @@ fn words(rt: &HostRuntime) -> io::Result<Vec<String>> {
     Ok(words)
 }
 
-fn main(rt: HostRuntime) -> io::Result<ExitCode> {
-    let words = words(&rt)?;
-    let mut store = FileStore::new(&rt);
+/// Why there are no words.
+fn cause_of(error: &io::Error) -> NoWords {
+    if error.kind() == io::ErrorKind::InvalidData {
+        NoWords::NotText
+    } else {
+        NoWords::OutOfMemory
+    }
+}
+
+fn main(rt: HostRuntime) -> ExitCode {
     let mut out = OutputSink::new(&rt);
-    let status = run(&rt, rt.alloc(), &words, &mut store, &mut out, &OpenGate);
-    Ok(ExitCode::from(status.code()))
+    let status = match words(&rt) {
+        Ok(words) => {
+            let mut store = FileStore::new(&rt);
+            run(&rt, rt.alloc(), &words, &mut store, &mut out, &OpenGate)
+        }
+        Err(error) => without_words(rt.alloc(), cause_of(&error), &mut out),
+    };
+    ExitCode::from(status.code())
 }

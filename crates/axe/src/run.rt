@@ -1,14 +1,16 @@
 ghost use Rattle.std.specs.Prelude.{◌≡◌, ℕ, map, string_bytes};
-ghost use Rattle.axe.specs.Runs.{RunEnds, Wrote, answer};
+ghost use Rattle.axe.specs.Runs.{RunEnds, Wrote, WroteWithoutWords, answer};
 
-use crate::answer::{Answer, answer_to};
-use crate::status::Status;
+use crate::answer::{Answer, answer_to, refused};
+use crate::status::{NoWords, Status};
 use axe_io::{Gate, Sink, Store, write_all};
+use axe_words::WordsError;
+use clap::error::ErrorKind;
 use std::alloc::Global;
 use std::marker::Sync;
 use std::sync::Wait;
 use std::thread::Threads;
-use verdict_text::verdict_text;
+use verdict_text::{Refusal, verdict_text};
 
 /// Does the job of the words, which are those after the program's name, and writes the text of its verdict.
 ///
@@ -31,6 +33,22 @@ pub fn run<R: Threads + Wait + Sync, S: Store, K: Sink, G: Gate + Sync>(
     match answer_to(alloc, words, store) {
         Ok(answer) => put(alloc, &answer, out),
         Err(stop) => Status::of_stop(&stop),
+    }
+}
+
+/// Does what is left to do where the system gave no words. Words of which one is no text are refused as not of the
+/// command's form, and the text of that is written as by [`run`]; for want of memory nothing is written.
+pub fn without_words<K: Sink>(alloc: Global, cause: NoWords, out: &mut K) -> Status
+    ensures { WroteWithoutWords cause (K.written out.old) (K.written out.new) (K.faults out.old) (K.faults out.new) result }
+{
+    match cause {
+        NoWords::NotText => {
+            let error = WordsError::Refused {
+                kind: ErrorKind::InvalidValue,
+            };
+            put(alloc, &refused(Refusal::Words(error)), out)
+        }
+        NoWords::OutOfMemory => Status::NoMemory,
     }
 }
 

@@ -23,6 +23,15 @@ pub enum Status {
     NoMemory,
 }
 
+/// Why the system gave no words.
+#[derive(Clone, Copy, Debug, PartialEq, Eq)]
+pub enum NoWords {
+    /// A word is no text in UTF-8.
+    NotText,
+    /// Memory is wanting.
+    OutOfMemory,
+}
+
 impl Status {
     /// The process's exit status, from 0 to 6 in the order of the variants.
     pub fn code(self) -> u8
