@@ -1,14 +1,23 @@
 -- Gates with a constant among their inputs.
-use Rattle.std.proofs.Common.{◌≡◌, ℕ, Bool, true, false, not, cond, refl, ◌∙◌}
+use Rattle.std.proofs.Common.{◌≡◌, ◌≢◌, ℕ, Bool, true, false, not, cond, Option, Some, None, MatchOption, refl, sym, ap, ◌∙◌}
 use Rattle.cnf_clauses.specs.Literal.{Literal, value_of, opposite}
 use Rattle.cnf_clauses.specs.Formula.{Cnf}
 use Rattle.cnf_clauses.proofs.Meeting.{value_of-opposite}
-use Rattle.bit_blaster.specs.Gates.{HasRoom, IsGate, constant, choose, most, odd}
+use Rattle.bit_blaster.specs.Gates.{HasRoom, IsGate, constant, signed, choose, most, odd}
 use Rattle.bit_blaster.proofs.Growing.{constant_value}
 
 -- a gate also has each value that is the same wherever variable 0 is true
 pub gate_likewise : (f g : Cnf) (n : ℕ) (l : Literal) (p q : (ℕ → Bool) → Bool) → HasRoom f n → ((v : ℕ → Bool) → v 0 ≡ true → p v ≡ q v) → IsGate f g 1 l p → IsGate f g 1 l q
 gate_likewise f g n l p q r e h = record { grows = h.grows; inside = h.inside; means = λ v m. h.means v m ∙ e v (r.on v (h.grows.kept v m)) }
+
+signed_constant : (value : Bool) → signed value (constant true) ≡ constant value
+signed_constant true = refl
+signed_constant false = refl
+
+-- a literal that is related to the constant `true` is a constant, and one that isn't is none
+pub known_by : (o : Option Bool) (a l : Literal) → a ≡ constant true → MatchOption o ((same : Bool) → l ≢ signed same a) (λ same. l ≡ signed same a) → MatchOption o ((value : Bool) → l ≢ constant value) (λ value. l ≡ constant value)
+known_by None a l e h = λ value is. h value (is ∙ sym (ap (signed value) e ∙ signed_constant value))
+known_by (Some same) a l e h = h ∙ (ap (signed same) e ∙ signed_constant same)
 
 known_value : (v : ℕ → Bool) (on : Bool) (l : Literal) → v 0 ≡ true → l ≡ constant on → value_of v l ≡ on
 known_value v on l o e = rw e (constant_value v on o)

@@ -1,6 +1,6 @@
 //! Gates: a literal that stands there already where one has the gate's value, else a plain gate.
 
-ghost use Rattle.std.specs.Prelude.{◌≡◌, ◌<◌, ◌&&◌, IfOk, IfSome, cond, true};
+ghost use Rattle.std.specs.Prelude.{◌≡◌, ◌≢◌, ◌<◌, ◌&&◌, Bool, IfOk, MatchOption, cond, true};
 ghost use Rattle.cnf_clauses.specs.Literal.{value_of};
 ghost use Rattle.bit_blaster.specs.Gates.{HasRoom, IsGate, constant as constant_of, signed, differ as differ_of, choose as choose_of, most as most_of, odd as odd_of};
 
@@ -11,7 +11,7 @@ use cnf_clauses::{Formula, Lit};
 
 /// Whether `b` is `a` or its opposite, or None where it is neither.
 fn related(a: Lit, b: Lit) -> Option<bool>
-    ensures { IfSome result (λ same. b ≡ signed same a) }
+    ensures { MatchOption result ((same : Bool) → b ≢ signed same a) (λ same. b ≡ signed same a) }
 {
     if a == b {
         Some(true)
@@ -24,7 +24,7 @@ fn related(a: Lit, b: Lit) -> Option<bool>
 
 /// The value of a constant, or None where the literal isn't one.
 fn known(l: Lit) -> Option<bool>
-    ensures { IfSome result (λ value. l ≡ constant_of value) }
+    ensures { MatchOption result ((value : Bool) → l ≢ constant_of value) (λ value. l ≡ constant_of value) }
 {
     related(constant(true), l)
 }
