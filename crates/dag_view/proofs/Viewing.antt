@@ -1,5 +1,5 @@
 -- What holds of a view that is made, and what embeds has the graph's values.
-use Rattle.std.proofs.Common.{◌≡◌, ℕ, zero, suc, ◌+◌, ◌<◌, Bool, List, [], ◌∷◌, length, refl, sym, ◌∙◌, ap, subst, arith, Option, Some, None, inl, inr}
+use Rattle.std.proofs.Common.{◌≡◌, ℕ, zero, suc, ◌+◌, ◌<◌, ◌≤◌, Bool, List, [], ◌∷◌, length, refl, sym, ◌∙◌, ap, subst, arith, Option, Some, None, inl, inr}
 use Rattle.std.specs.Prelude.{nat_eq, ◌&&◌, option_map, slice_get, slice_index}
 use Rattle.std.proofs.lemmas.Bool.{cases_lt}
 use Rattle.std.proofs.lemmas.Option.{slice_get_within, slice_get-get_or, get_or_from_slice_get, slice_get-map}
@@ -13,11 +13,12 @@ use Rattle.dag.proofs.Replacing.{value_same}
 use Rattle.dag.proofs.Inverting.{leaf_of, when_some}
 use Rattle.bit_blaster.specs.Circuit.{HaveValues}
 use Rattle.merge_table.specs.KeepsValues.{KeepsValues}
-use Rattle.dag_view.specs.View.{ViewParts, IsView, arity, nth_child, bare, HasDefinition, HasChildren, Stands, Embeds, IsMisfit, IsOtherChild, HasMisfit, values_at}
+use Rattle.dag_view.specs.View.{ViewParts, IsView, HasParent, IsUnder, arity, nth_child, bare, HasDefinition, HasChildren, Stands, Embeds, StandBefore, IsMisfit, IsOtherChild, HasMisfit, values_at}
 use Rattle.dag_view.specs.declared.view.Misfit.{Misfit}
 use Rattle.dag_view.specs.declared.view.Misfit.TheVariants.{Child, Definition}
-use Rattle.dag_view.specs.Cone.{IsMarked, ArePlaced}
+use Rattle.dag_view.specs.Cone.{IsMarked, IsBelowMarked, AreUnder, ArePlaced}
 use Rattle.dag_view.proofs.Positions.{reads_from, replaced_arity}
+use Rattle.dag_view.proofs.Marking.{marked_within}
 
 number_same : (x y : ℕ) → Some x ≡ Some y → x ≡ y
 number_same x y e = cc
@@ -123,6 +124,40 @@ word_same x y u v p q = rw (p, q) refl
 arities : (m n : Node) → bare n ≡ bare m → arity m ≡ arity n
 arities m n e = sym (replaced_arity m _) ∙ ap arity (sym e) ∙ replaced_arity n _
 
+-- a view stands under its pair where the marked nodes do
+pub view_under : (g : Graph) (table : List ℕ) (marks : List Bool) (nodes : List Node) (ws ids places : List ℕ) (count a b first second leaves : ℕ) → ArePlaced g table marks nodes ws ids places count → length marks ≤ count → IsMarked marks a → IsMarked marks b → AreUnder g table marks a b
+    → first ≡ slice_index places a → second ≡ slice_index places b → IsUnder (record { nodes = nodes; widths = ws; ids = ids; first = first; second = second; a = a; b = b; leaves = leaves })
+view_under g table marks nodes ws ids places count a b first second leaves p all a-marked b-marked under first-is second-is = λ k lt.
+    let at : slice_get ids k ≡ Some (slice_index ids k) = slice_get-get_or ids k 0 (omega (arith, lt, p.size)) in
+    elim (under (slice_index ids k) (p.marked k _ at)) [
+      | inl e ↦ inl (one_rise ids k first a p.rising (at ∙ some _ _ e) (ap (slice_get ids) first-is ∙ placed a a-marked))
+      | inr o ↦ elim o [
+        | inl e ↦ inr (inl (one_rise ids k second b p.rising (at ∙ some _ _ e) (ap (slice_get ids) second-is ∙ placed b b-marked)))
+        | inr c ↦ inr (inr (parent k _ at c))
+      ]
+    ]
+  where
+    some : (x y : ℕ) → x ≡ y → Some x ≡ Some y
+    some x y e = ap (λ (z : ℕ). let o : Option ℕ = Some z in o) e
+
+    node_same : (m n : Node) → Some m ≡ Some n → m ≡ n
+    node_same m n e = cc
+
+    placed : (x : ℕ) → IsMarked marks x → slice_get ids (slice_index places x) ≡ Some x
+    placed x on = p.placed x (omega (arith, marked_within marks x on, all)) on
+
+    parent : (k x : ℕ) → slice_get ids k ≡ Some x → IsBelowMarked g table marks x → HasParent nodes k
+    parent k x at c =
+        let j : ℕ = slice_index places c.parent in
+        let there : slice_get ids j ≡ Some c.parent = placed c.parent c.marked in
+        let found : slice_get g.nodes (slice_index ids j) ≡ Some c.node = ap (slice_get g.nodes) (get_or_from_slice_get ids j c.parent 0 there) ∙ c.at in
+        let o = node_at nodes j (omega (arith, slice_get_within ids j c.parent there, p.size)) in
+        let s = p.stands j o.0 o.1 in
+        let same : s.0 ≡ c.node = node_same s.0 c.node (sym s.1.definition.at ∙ found) in
+        let lt : c.position < arity o.0 = subst (λ (y : ℕ). c.position < y) (ap arity (sym same) ∙ sym (arities o.0 s.0 s.1.definition.kind)) c.inside in
+        let e : nth_child o.0 c.position ≡ k = one_rise ids _ k x p.rising (p.children j o.0 c.node c.position x o.1 found c.inside c.retains) at in
+        record { place = j; node = o.0; position = c.position; later = omega (arith, p.before j o.0 c.position o.1 lt, e); at = o.1; inside = lt; child = e }
+
 -- what embeds has the graph's values
 pub embedded_values : (g : Graph) (table : List ℕ) (v : ViewParts) → IsView v → Embeds g table v → ((k : ℕ) (n : Node) (i : ℕ) → slice_get g.nodes k ≡ Some n → i < arity n → nth_child n i < k) → KeepsValues g table → (input values : List ℕ) → AreValues g input values → HaveValues input v.nodes v.widths (values_at v.ids values)
 embedded_values g table v is embeds early keeps input values are = record {
@@ -161,10 +196,10 @@ embedded_values g table v is embeds early keeps input values are = record {
         word_same _ _ _ _ (get_or_from_slice_get g.widths (nth_child n i) _ 0 c-wide) (value ∙ sym (read p p-id))
 
 -- what holds before a place and at it holds before the next
-pub embeds_more : (g : Graph) (table : List ℕ) (v : ViewParts) (k : ℕ) (m n : Node) → ((j : ℕ) (o : Node) → j < k → slice_get v.nodes j ≡ Some o → (q : Node) × Stands g table v.ids o (slice_index v.widths j) (slice_index v.ids j) q)
+pub embeds_more : (g : Graph) (table : List ℕ) (v : ViewParts) (k : ℕ) (m n : Node) → StandBefore g table v k
     → slice_get v.nodes k ≡ Some m → HasDefinition g m (slice_index v.widths k) (slice_index v.ids k) n → HasChildren table v.ids m n
-    → (j : ℕ) (o : Node) → j < k + 1 → slice_get v.nodes j ≡ Some o → (q : Node) × Stands g table v.ids o (slice_index v.widths j) (slice_index v.ids j) q
-embeds_more g table v k m n h at d c j o lt there = elim (cases_lt j k) [
+    → StandBefore g table v (k + 1)
+embeds_more g table v k m n h at d c = λ j o lt there. elim (cases_lt j k) [
   | inl less ↦ h j o less there
   | inr ge ↦
       let e : j ≡ k = omega (arith, lt, ge) in
@@ -176,15 +211,16 @@ embeds_more g table v k m n h at d c j o lt there = elim (cases_lt j k) [
     node_same : (o m : Node) → Some o ≡ Some m → o ≡ m
     node_same o m e = cc
 
-pub definition_misfit : (g : Graph) (table : List ℕ) (v : ViewParts) (k : ℕ) (m : Node) (w id : ℕ) (e : Misfit) → slice_get v.nodes k ≡ Some m → w ≡ slice_index v.widths k → id ≡ slice_index v.ids k → e ≡ Definition id m (slice_get g.nodes id)
+pub definition_misfit : (g : Graph) (table : List ℕ) (v : ViewParts) (k : ℕ) (m : Node) (w id : ℕ) (e : Misfit) → StandBefore g table v k → slice_get v.nodes k ≡ Some m → w ≡ slice_index v.widths k → id ≡ slice_index v.ids k → e ≡ Definition id m (slice_get g.nodes id)
     → ((n : Node) → HasDefinition g m w id n → ⊥) → HasMisfit g table v e
-definition_misfit g table v k m w id e at w-is id-is e-is none =
-    (k, m, at, subst (λ (x : Misfit). IsMisfit g table v k m x) (sym e-is) (id-is, refl, refl, λ n d. none n (subst (λ (x : ℕ). HasDefinition g m x id n) (sym w-is) d)))
+definition_misfit g table v k m w id e before at w-is id-is e-is none =
+    (k, m, at, before, subst (λ (x : Misfit). IsMisfit g table v k m x) (sym e-is) (id-is, refl, refl, λ n d. none n (subst (λ (x : ℕ). HasDefinition g m x id n) (sym w-is) d)))
 
-pub child_misfit : (g : Graph) (table : List ℕ) (v : ViewParts) (k : ℕ) (m n : Node) (w id : ℕ) (e : Misfit) → slice_get v.nodes k ≡ Some m → w ≡ slice_index v.widths k → id ≡ slice_index v.ids k → HasDefinition g m w id n → IsOtherChild table v.ids id m n e → HasMisfit g table v e
-child_misfit g table v k m n w id (Definition node seen now) at w-is id-is d o = absurd o
-child_misfit g table v k m n w id (Child node child seen now) at w-is id-is d o =
-    (k, m, at, (n, subst (λ (x : ℕ). HasDefinition g m (slice_index v.widths k) x n) (sym o.0) (subst (λ (x : ℕ). HasDefinition g m x id n) w-is d), (o.0 ∙ id-is, o.1, o.2, o.3, o.4)))
+pub child_misfit : (g : Graph) (table : List ℕ) (v : ViewParts) (k : ℕ) (m n : Node) (w id : ℕ) (e : Misfit) → StandBefore g table v k → slice_get v.nodes k ≡ Some m → w ≡ slice_index v.widths k → id ≡ slice_index v.ids k → HasDefinition g m w id n → IsOtherChild table v.ids id m n e
+    → HasMisfit g table v e
+child_misfit g table v k m n w id (Definition node seen now) before at w-is id-is d o = absurd o
+child_misfit g table v k m n w id (Child node child seen now) before at w-is id-is d o =
+    (k, m, at, before, (n, subst (λ (x : ℕ). HasDefinition g m (slice_index v.widths k) x n) (sym o.0) (subst (λ (x : ℕ). HasDefinition g m x id n) w-is d), (o.0 ∙ id-is, o.1, o.2, o.3, o.4, o.5)))
 
 -- what a node that has its definition in the graph owes for its children to be looked at
 pub record AreInside (table ids : List ℕ) (m n : Node) : Type 0 where
@@ -194,7 +230,7 @@ pub record AreInside (table ids : List ℕ) (m n : Node) : Type 0 where
   pub now : (i : ℕ) → i < arity m → nth_child n i < length table
 
 pub inside : (g : Graph) (table : List ℕ) (v : ViewParts) (k : ℕ) (m n : Node) (w id : ℕ) → IsView v → length table ≡ length g.nodes → ((j : ℕ) (o : Node) (i : ℕ) → slice_get g.nodes j ≡ Some o → i < arity o → nth_child o i < j)
-    → ((j : ℕ) (o : Node) → j < k → slice_get v.nodes j ≡ Some o → (q : Node) × Stands g table v.ids o (slice_index v.widths j) (slice_index v.ids j) q) → slice_get v.nodes k ≡ Some m → HasDefinition g m w id n → AreInside table v.ids m n
+    → StandBefore g table v k → slice_get v.nodes k ≡ Some m → HasDefinition g m w id n → AreInside table v.ids m n
 inside g table v k m n w id is size early h at d = record {
   arity_same = sym (arities m n d.kind);
   places = λ i lt. omega (arith, is.before k m i at lt, slice_get_within v.nodes k m at, is.size);

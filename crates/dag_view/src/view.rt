@@ -5,7 +5,7 @@ ghost use Rattle.dag.specs.Graph.{AreValues};
 ghost use Rattle.axe_io.specs.Shapes.{leaf_widths};
 ghost use Rattle.bit_blaster.specs.Circuit.{IsCircuit, HaveValues, widths_of};
 ghost use Rattle.merge_table.specs.KeepsValues.{KeepsValues};
-ghost use Rattle.dag_view.specs.View.{IsView, IsTableOf, HasDefinition, HasChildren, Embeds, IsOtherChild, HasMisfit, values_at, arity, nth_child, bare};
+ghost use Rattle.dag_view.specs.View.{IsView, IsUnder, IsTableOf, HasDefinition, HasChildren, Embeds, IsOtherChild, HasMisfit, values_at, arity, nth_child, bare};
 
 use crate::cone::{Placed, place};
 use crate::marks::marked;
@@ -102,7 +102,7 @@ impl View {
 
     /// Whether a graph and its table have what the view has seen: at each place the same definition and width, and
     /// children that are retained by the same nodes. Then the view's nodes have the graph's values on each input. A
-    /// misfit is the first in the view's order, the definition before the children.
+    /// misfit is the first in the view's order, the definition before the children, and these in their order.
     pub fn embeds(&self, dag: &Dag, table: &MergeTable) -> Result<(), Misfit>
         requires { IsTableOf dag.now table.now }
         ensures embeds { OnOk result (Embeds dag.now table.now self.now) }
@@ -125,8 +125,8 @@ impl View {
         Ok(())
     }
 
-    /// The view of two nodes of one width: their definitions and those under them, where each child is replaced by the
-    /// node that retains it. No node is cut yet: `cut` is None.
+    /// The view of two nodes of one width: their definitions and those under them, and no others, where each child is
+    /// replaced by the node that retains it. No node is cut yet: `cut` is None.
     pub fn cone(
         alloc: Global,
         dag: &Dag,
@@ -144,6 +144,7 @@ impl View {
         ensures second { IfOk result (λ v. v.b ≡ b.0) }
         ensures leaves { IfOk result (λ v. v.leaves ≡ length (leaf_widths dag.now.shape.params)) }
         ensures embeds { IfOk result (Embeds dag.now table.now) }
+        ensures under { IfOk result IsUnder }
     {
         let _cut = cut;
         dag.known();
