@@ -1,3 +1,7 @@
+ghost use Rattle.std.specs.Prelude.{◌≡◌, IfOk};
+ghost use Rattle.dag.specs.Graph.{Adds};
+ghost use Rattle.dag.specs.declared.node.Node.TheVariants.{Leaf, Const};
+
 use axe_io::{Kind, Memory, OutPlace, Param, Shape};
 use dag::{Dag, DagError, Node, NodeId};
 use std::alloc::{AllocError, AllocFailed, Global};
@@ -60,7 +64,9 @@ impl Builder {
     }
 
     /// Adds a node.
-    pub fn put(&mut self, node: Node) -> Result<NodeId, Fault> {
+    pub fn put(&mut self, node: Node) -> Result<NodeId, Fault>
+        ensures { IfOk result (λ id. Adds self.old.dag self.new.dag node id.0) }
+    {
         if !self.dag.fits(node) {
             return Err(Fault::Unfit);
         }
@@ -69,12 +75,16 @@ impl Builder {
     }
 
     /// An input word of 32 bits.
-    pub fn input(&mut self, index: u32) -> Result<NodeId, Fault> {
+    pub fn input(&mut self, index: u32) -> Result<NodeId, Fault>
+        ensures { IfOk result (λ id. Adds self.old.dag self.new.dag (Leaf 32 index) id.0) }
+    {
         self.put(Node::Leaf { width: 32, index })
     }
 
     /// A constant.
-    pub fn constant(&mut self, width: u32, value: u64) -> Result<NodeId, Fault> {
+    pub fn constant(&mut self, width: u32, value: u64) -> Result<NodeId, Fault>
+        ensures { IfOk result (λ id. Adds self.old.dag self.new.dag (Const width value) id.0) }
+    {
         self.put(Node::Const { width, value })
     }
 

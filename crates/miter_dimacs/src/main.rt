@@ -10,6 +10,8 @@ mod builder;
 mod kinds;
 mod pairs;
 mod sbox;
+#[cfg(test)]
+mod tests;
 mod views;
 
 use builder::{Builder, Fault};

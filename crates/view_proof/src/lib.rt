@@ -19,6 +19,3 @@ mod read;
 pub use ask::{Question, question_of};
 pub use pair::{Checked, PairEnd, SpentProof, prove_pair};
 pub use path::{Settled, settle};
-
-#[cfg(test)]
-mod tests;

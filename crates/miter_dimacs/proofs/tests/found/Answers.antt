@@ -1,7 +1,7 @@
 use Rattle.std.proofs.Common.{subst, sym}
 use Rattle.view_proof.specs.Answer.{HoldsInGraphs}
 use Rattle.view_proof.specs.declared.pair.PairEnd.{PairEnd}
-use Rattle.view_proof.proofs.tests.found.Goals as goal
+use Rattle.miter_dimacs.proofs.tests.found.Goals as goal
 
 pub value_at-requires-clause-input : goal.value_at-requires-clause-input
 value_at-requires-clause-input c =

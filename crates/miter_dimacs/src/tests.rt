@@ -2,7 +2,6 @@
 
 ghost use Rattle.std.specs.Prelude.{◌≡◌, ◌<◌, ◌≤◌, length, slice_get};
 
-use crate::{PairEnd, Settled, prove_pair, settle};
 use axe_io::{Kind, Memory, OutPlace, Param, Shape};
 use dag::{Dag, DagError, Node, NodeId};
 use dag_view::View;
@@ -10,6 +9,7 @@ use merge_table::MergeTable;
 use std::alloc::{AllocError, Global};
 use std::process::Abort;
 use std::test::Fail;
+use view_proof::{PairEnd, Settled, prove_pair, settle};
 
 /// What a search came to.
 #[derive(Clone, Copy, PartialEq, Eq, Debug)]
