@@ -6,6 +6,9 @@ use spec_reader::{Program, SpecError, read_spec};
 use std::alloc::Global;
 use std::{env, fs, io};
 
+#[cfg(test)]
+mod tests;
+
 fn main(rt: HostRuntime) -> io::Result<()> {
     let mut words = env::args(&rt)?.skip(1);
     let Some(file) = words.next() else {

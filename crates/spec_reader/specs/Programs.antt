@@ -48,14 +48,16 @@ program_from names program number (d ∷ ds) = defined names number d >>= λ bod
 abbrev pub program_with : List Definition → Result Program SpecError
 program_with ds = program_from (meaning_of (entries ds)) no_definitions 0 ds
 
--- the program that the bytes spell, or their first fault: of their tokens, of their parentheses, of their forms,
--- of their names
-abbrev pub program_of : List ℕ → Result Program SpecError
-program_of bytes = do
+-- the definitions that the bytes spell, or their first fault: of their tokens, of their parentheses, of their forms
+abbrev pub definitions_of : List ℕ → Result (List Definition) SpecError
+definitions_of bytes = do
   tokens ← tokens_of bytes
   data' ← nested tokens
-  definitions' ← definitions (map reading data')
-  program_with definitions'
+  definitions (map reading data')
+
+-- the program that the bytes spell, or their first fault: that of their definitions, or else of their names
+abbrev pub program_of : List ℕ → Result Program SpecError
+program_of bytes = definitions_of bytes >>= program_with
 
 -- two names are one without regard to case
 abbrev pub same_name : List ℕ → List ℕ → Bool

@@ -1,4 +1,4 @@
-use sqlite_items::Items;
+use sqlite_items::{Boxed, Items};
 
 /// What a text spells at one place, with the offset of its first byte.
 #[derive(Drop)]
@@ -11,7 +11,7 @@ pub enum Datum {
     Text(u32),
     /// Apostrophes by their offsets, the first and the others, and what stands behind them: one datum, or nothing
     /// at the end of a list or of the text.
-    Quote(u32, Items<u32>, Items<Datum>),
+    Quote(u32, Boxed<Items<u32>>, Items<Datum>),
     /// What stands between two parentheses, with the offset of the closing one too.
     List(u32, u32, Items<Datum>),
 }

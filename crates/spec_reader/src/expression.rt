@@ -31,13 +31,13 @@ pub enum Expression {
     /// A special form with its parts.
     Special(u32, Special, Items<Expression>),
     /// `let`: the bound names, their values, and the body.
-    Let(u32, Items<Items<u8>>, Items<Expression>, Boxed<Expression>),
+    Let(u32, Boxed<Items<Items<u8>>>, Items<Expression>, Boxed<Expression>),
     /// `let*`, likewise.
-    LetStar(u32, Items<Items<u8>>, Items<Expression>, Boxed<Expression>),
+    LetStar(u32, Boxed<Items<Items<u8>>>, Items<Expression>, Boxed<Expression>),
     /// A call of a function of the language.
     Builtin(u32, Builtin, Items<Expression>),
     /// A call of another function by its name.
-    Call(u32, Items<u8>, Items<Expression>),
+    Call(u32, Boxed<Items<u8>>, Items<Expression>),
 }
 
 /// A definition as it is written.

@@ -29,6 +29,3 @@ pub use builtin::Builtin;
 pub use error::SpecError;
 pub use form::{Form, FormKind};
 pub use program::{ConstId, FunId, Function, NamedConstant, Program, read_spec};
-
-#[cfg(test)]
-mod tests;

@@ -141,6 +141,17 @@ impl<'a> Seen<'a> {
 pub fn are_distinct(alloc: Global, names: &[Items<u8>]) -> Result<bool, AllocError>
     ensures { IfOk result (λ distinct. distinct ≡ are_distinct names.now) }
 {
+    match names {
+        [] => Ok(true),
+        [_] => Ok(true),
+        _ => are_new(alloc, names),
+    }
+}
+
+/// Whether each name is none of those before it.
+fn are_new(alloc: Global, names: &[Items<u8>]) -> Result<bool, AllocError>
+    ensures { IfOk result (λ distinct. distinct ≡ are_distinct names.now) }
+{
     let mut seen = Seen {
         names: HashSet::new(alloc),
     };

@@ -7,7 +7,7 @@ ghost use Rattle.spec_reader.specs.Nesting.{start, state, step, finish, opened, 
 use crate::datum::Datum;
 use crate::error::SpecError;
 use crate::token::{Located, Token};
-use sqlite_items::Items;
+use sqlite_items::{Boxed, Items};
 use std::alloc::{AllocError, Global};
 use std::mem;
 
@@ -157,7 +157,7 @@ fn quoted(alloc: Global, marks: Option<Marks>, datum: Datum) -> Result<Datum, Al
         Some(Marks { at, more }) => {
             let mut parts = Items::new(alloc);
             parts.push(datum)?;
-            Ok(Datum::Quote(at, more, parts))
+            Ok(Datum::Quote(at, Boxed::new(alloc, more)?, parts))
         }
     }
 }
@@ -173,6 +173,7 @@ fn end_marks(
     let Some(Marks { at, more }) = marks else {
         return Ok(());
     };
+    let more = Boxed::new(alloc, more)?;
     parts.push(Datum::Quote(at, more, Items::new(alloc)))
 }
 

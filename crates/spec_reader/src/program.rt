@@ -2,7 +2,7 @@ ghost use Rattle.std.specs.Prelude.{◌≡◌, ◌≤◌, ◌<◌, length, map, 
 ghost use Rattle.spec_reader.specs.Reading.{Gives};
 ghost use Rattle.spec_reader.specs.Expressions.{reading};
 ghost use Rattle.spec_reader.specs.Forms.{meaning_in};
-ghost use Rattle.spec_reader.specs.Programs.{program_of, added, program_with, may_define, body_of, defined, same_name, function_named};
+ghost use Rattle.spec_reader.specs.Programs.{program_of, definitions_of, added, program_with, may_define, body_of, defined, same_name, function_named};
 
 use crate::definition::definitions;
 use crate::error::SpecError;
@@ -104,10 +104,18 @@ pub fn read_spec(alloc: Global, bytes: &[u8]) -> Result<Program, SpecError>
     requires { length bytes.now ≤ 1048576 }
     ensures { Gives (λ program. program) result (program_of bytes.now) }
 {
+    let definitions = definitions_in(alloc, bytes)?;
+    program_with(alloc, definitions.as_slice())
+}
+
+/// The definitions that the bytes spell, their names unread.
+fn definitions_in(alloc: Global, bytes: &[u8]) -> Result<Items<Definition>, SpecError>
+    requires { length bytes.now ≤ 1048576 }
+    ensures { Gives (λ ds. ds) result (definitions_of bytes.now) }
+{
     let tokens = tokens(alloc, bytes)?;
     let data = nested(alloc, tokens)?;
-    let definitions = definitions(alloc, data.as_slice())?;
-    program_with(alloc, definitions.as_slice())
+    definitions(alloc, data.as_slice())
 }
 
 /// The program of some definitions.
@@ -119,19 +127,21 @@ fn program_with(alloc: Global, definitions: &[Definition]) -> Result<Program, Sp
         functions: Items::new(alloc),
         constants: Items::new(alloc),
     };
+    let mut scope = Scope::new(alloc);
     for (number, definition) in definitions.iter().enumerate() {
-        let body = defined(alloc, &names, number, definition)?;
+        let body = defined(alloc, &names, &mut scope, number, definition)?;
         add(alloc, &mut program, definition, body)?;
     }
     Ok(program)
 }
 
 /// The body or the value of a definition, where its name may be defined there.
-fn defined(
+fn defined<'a>(
     alloc: Global,
     names: &Names<'_>,
+    scope: &mut Scope<'a>,
     number: usize,
-    definition: &Definition,
+    definition: &'a Definition,
 ) -> Result<Form, SpecError>
     ensures { Gives (λ form. form) result (defined (meaning_in names.now) number definition.now) }
 {
@@ -139,7 +149,7 @@ fn defined(
     if !may_define(names, number, definition.name.as_slice()) {
         return Err(SpecError::Duplicate { at });
     }
-    body_of(alloc, names, definition)
+    body_of(alloc, names, scope, definition)
 }
 
 /// Whether a name is that of no form of the language, and is defined here first.
@@ -156,10 +166,15 @@ fn may_define(names: &Names<'_>, number: usize, name: &[u8]) -> bool
 }
 
 /// The body of a function in the scope of its formals, or the value of a constant.
-fn body_of(alloc: Global, names: &Names<'_>, definition: &Definition) -> Result<Form, SpecError>
+fn body_of<'a>(
+    alloc: Global,
+    names: &Names<'_>,
+    scope: &mut Scope<'a>,
+    definition: &'a Definition,
+) -> Result<Form, SpecError>
     ensures { Gives (λ form. form) result (body_of (meaning_in names.now) definition.now definition.now.formals) }
 {
-    let mut scope = Scope::new(alloc);
+    scope.truncate(0);
     if let Some(formals) = &definition.formals {
         if !are_distinct(alloc, formals.as_slice())? {
             let at = definition.at;
@@ -167,7 +182,7 @@ fn body_of(alloc: Global, names: &Names<'_>, definition: &Definition) -> Result<
         }
         scope.bind_all(formals.as_slice())?;
     }
-    resolve(alloc, names, &mut scope, &definition.body)
+    resolve(alloc, names, scope, &definition.body)
 }
 
 /// Adds a definition with its resolved body.

@@ -45,12 +45,12 @@ pub fn resolve<'a>(
             names,
             scope,
             *at,
-            bound.as_slice(),
+            bound.get().as_slice(),
             values.as_slice(),
             body.get(),
         ),
         Expression::LetStar(at, bound, values, body) => {
-            let (bound, values) = (bound.as_slice(), values.as_slice());
+            let (bound, values) = (bound.get().as_slice(), values.as_slice());
             let parts = star_parts(alloc, names, scope, bound, values, body.get())?;
             Ok(Form {
                 at: *at,
@@ -65,7 +65,7 @@ pub fn resolve<'a>(
             })
         }
         Expression::Call(at, name, parts) => {
-            let meaning = names.meaning_of(name.as_slice());
+            let meaning = names.meaning_of(name.get().as_slice());
             call_form(alloc, names, scope, *at, meaning, parts.as_slice())
         }
     }

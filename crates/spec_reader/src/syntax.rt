@@ -25,7 +25,7 @@ pub fn expression(alloc: Global, datum: &Datum) -> Result<Expression, SpecError>
         Datum::Number(at, number) => Ok(Expression::Literal(*at, Literal::Number(*number))),
         Datum::Text(at) => Err(SpecError::BadForm { at: *at }),
         Datum::Quote(at, more, parts) => {
-            apostrophe_form(alloc, *at, more.as_slice(), parts.as_slice())
+            apostrophe_form(alloc, *at, more.get().as_slice(), parts.as_slice())
         }
         Datum::List(at, _, parts) => list_form(alloc, *at, parts.as_slice()),
     }
@@ -237,6 +237,7 @@ fn let_named(
     let values = bound_values(alloc, at, bindings)?;
     let body = body_behind(alloc, preamble, body)?;
     let body = Boxed::new(alloc, body)?;
+    let names = Boxed::new(alloc, names)?;
     if star {
         Ok(Expression::LetStar(at, names, values, body))
     } else {
@@ -320,6 +321,6 @@ fn called(alloc: Global, at: u32, name: &[u8], parts: &[Datum]) -> Result<Expres
     ensures { Gives (λ e. e) result (called at name.now (expressions (map reading parts.now))) }
 {
     let parts = expressions(alloc, parts)?;
-    let name = Items::from_slice(alloc, name)?;
+    let name = Boxed::new(alloc, Items::from_slice(alloc, name)?)?;
     Ok(Expression::Call(at, name, parts))
 }

@@ -1,4 +1,4 @@
-use crate::{Form, FormKind, Program, SpecError, read_spec};
+use spec_reader::{Form, FormKind, Program, SpecError, read_spec};
 use std::alloc::Global;
 use std::test::Fail;
 
