@@ -34,6 +34,3 @@ mod rotations;
 
 pub use picking::pick;
 pub use plan::{NodeView, Plan, PlanId, PlanNode};
-
-#[cfg(test)]
-mod tests;

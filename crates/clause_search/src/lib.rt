@@ -21,6 +21,3 @@ mod watch;
 
 pub use outcome::Found;
 pub use run::search;
-
-#[cfg(test)]
-mod tests;

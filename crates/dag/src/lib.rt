@@ -24,6 +24,3 @@ pub use graph::{Dag, DagError};
 pub use node::{Children, Form, Node, NodeId, Outline};
 pub use value::{Word, kind_value};
 pub use width::width_by;
-
-#[cfg(test)]
-mod tests;

@@ -7,6 +7,8 @@
 #![tactic(auto)]
 
 mod graphs;
+#[cfg(test)]
+mod tests;
 
 use graphs::{added, summed, values_graph};
 use std::time::Instant;

@@ -38,8 +38,6 @@ mod state;
 mod step;
 mod stop;
 mod table;
-#[cfg(test)]
-mod tests;
 mod traces;
 mod types;
 mod value;

@@ -9,6 +9,8 @@ use std::io::Write;
 use std::{env, fs, io};
 
 mod lines;
+#[cfg(test)]
+mod tests;
 
 fn main(rt: HostRuntime) -> io::Result<()> {
     let words = env::args(&rt)?;

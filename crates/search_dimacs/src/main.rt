@@ -5,6 +5,8 @@
 #![tactic(auto)]
 
 mod dimacs;
+#[cfg(test)]
+mod tests;
 
 use axe_io::Memory;
 use clause_log::Log;

@@ -2,8 +2,8 @@
 
 ghost use Rattle.std.specs.Prelude.{ℕ, ◌≤◌, ◌^◌};
 
-use super::*;
 use axe_io::{Input, Kind, OutPlace, Param, Shape};
+use dag::{Dag, DagError, Node, NodeId};
 use std::alloc::{AllocError, Global};
 use std::process::Abort;
 use std::test::Fail;

@@ -1,8 +1,6 @@
-use crate::outcome::Found;
-use crate::run::search;
 use axe_io::Memory;
-use cnf_clauses::formula::Formula;
-use cnf_clauses::lit::Lit;
+use clause_search::{Found, search};
+use cnf_clauses::{Formula, Lit};
 use std::alloc::Global;
 use std::test::Fail;
 

@@ -1,8 +1,8 @@
 //! Traces of two small methods.
 
-use crate::{same_trace, shape_of};
 use axe_io::{Budgets, Input, Memory, OutPlace};
 use class_reader::read_class;
+use jvm_meaning::{same_trace, shape_of};
 use std::alloc::Global;
 use std::test::Fail;
 
