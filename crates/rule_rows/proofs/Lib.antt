@@ -1,2 +1,3 @@
 mod PlanTexts
 mod NodeTexts
+mod LeafNames

@@ -1,7 +1,8 @@
 -- Nodes in prefix notation.
-use Rattle.std.specs.Prelude.{◌≡◌, ◌⊎◌, ℕ, List, [], ◌∷◌, ◌++◌, Some, map, take, slice_get, slice_index_or, codes}
+use Rattle.std.specs.Prelude.{◌≡◌, ◌≢◌, ◌⊎◌, ◌==◌, ◌<◌, ℕ, List, [], ◌∷◌, ◌++◌, Some, Ok, IsSome, length, map, take, slice_get, slice_index_or, codes}
 use Rattle.std.specs.Fmt.{decimal}
-use Rattle.std.specs.List.{flat_map}
+use Rattle.std.specs.List.{flat_map, position_or_len, before_first, after_first}
+use Rattle.std.specs.Str.Parse.{ParsesUnsigned}
 use Rattle.dag.specs.declared.node.NodeId.{NodeId}
 use Rattle.dag.specs.declared.node.Node.{Node}
 use Rattle.dag.specs.declared.node.Node.TheVariants.{Leaf, Const, Not, And, Or, Xor, Neg, Plus, Times, Eq, Ult, Slt, Ite, Slice, Cat, Sext, Shl, Shr}
@@ -11,7 +12,7 @@ use Rattle.bv_rules.specs.declared.plan.PlanId.TheVariants.{Old, New}
 use Rattle.bv_rules.specs.declared.plan.PlanNode.{PlanNode}
 use Rattle.bv_rules.specs.declared.plan.Plan.{Plan}
 use Rattle.bv_rules.specs.Plans.{Keeps, steps}
-use Rattle.dag.specs.Graph.{Graph}
+use Rattle.dag.specs.Graph.{Graph, fits_width}
 
 -- the name of a node's kind; a leaf and a constant have none
 abbrev pub name : Node → List ℕ
@@ -40,18 +41,31 @@ numbers (Slice h l a) = h ∷ l ∷ []
 numbers (Sext w a) = w ∷ []
 numbers n = []
 
--- a leaf of these widths
-abbrev pub IsLeaf : List ℕ → Node → Type 0
-IsLeaf widths (Leaf w i) = slice_get widths i ≡ Some w
-IsLeaf widths n = ⊥
+-- the names of the leaves, in their order
+abbrev pub leaf_names : List (List ℕ)
+leaf_names = codes "x8" ∷ codes "y8" ∷ codes "z8" ∷ codes "x16" ∷ codes "y16" ∷ codes "z16" ∷ codes "x32" ∷ codes "y32" ∷ codes "z32" ∷ codes "x64" ∷ codes "y64" ∷ codes "z64" ∷ []
 
--- a constant
-abbrev pub IsConstant : Node → Type 0
-IsConstant (Const w v) = Unit {0}
-IsConstant n = ⊥
+-- the leaf that a word names, over a shape whose leaves have these widths
+abbrev pub IsLeaf : List ℕ → List ℕ → Node → Type 0
+IsLeaf widths word (Leaf w i) = (slice_get leaf_names i ≡ Some word) × (slice_get widths i ≡ Some w)
+IsLeaf widths word n = ⊥
 
--- a node of a name with these numbers and children
+-- a text that is read as a number of at most so many bits
+abbrev pub IsNumber : ℕ → List ℕ → ℕ → Type 0
+IsNumber bits text n = ParsesUnsigned {E = Unit {0}} bits 10 text (Ok n)
+
+-- the constant that a word gives: its value before the first colon, and its width after it
+abbrev pub IsConstant : List ℕ → Node → Type 0
+IsConstant word (Const w v) = (position_or_len (λ c. c == 58) word < length word) × IsNumber 64 (before_first (λ c. c == 58) word) v × IsNumber 32 (after_first (λ c. c == 58) word) w
+IsConstant word n = ⊥
+
+-- the leaf or the constant that a word stands for
+abbrev pub IsNamed : List ℕ → List ℕ → Node → Type 0
+IsNamed widths word n = IsLeaf widths word n ⊎ IsConstant word n
+
+-- a node that has a name, with these numbers and children
 pub record IsOperation (word : List ℕ) (counts : List ℕ) (ids : List NodeId) (n : Node) : Type 0 where
+  pub is_named : name n ≢ []
   pub word_is : name n ≡ word
   pub numbers_are : numbers n ≡ counts
   pub children_are : take (children n).count (children n).ids ≡ ids
@@ -65,10 +79,6 @@ head n = name n
 -- a head with texts after it
 abbrev pub with_children : List ℕ → List (List ℕ) → List ℕ
 with_children text texts = text ++ flat_map (λ t. 32 ∷ t) texts
-
--- the names of the leaves, in their order
-abbrev pub leaf_names : List (List ℕ)
-leaf_names = codes "x8" ∷ codes "y8" ∷ codes "z8" ∷ codes "x16" ∷ codes "y16" ∷ codes "z16" ∷ codes "x32" ∷ codes "y32" ∷ codes "z32" ∷ codes "x64" ∷ codes "y64" ∷ codes "z64" ∷ []
 
 -- the term of a node whose children have these terms
 abbrev pub term : Node → List (List ℕ) → List ℕ
@@ -110,3 +120,17 @@ child_texts texts n = map (λ (id : NodeId). text_at texts id.0) (take (children
 abbrev pub terms_from : List (List ℕ) → List Node → List (List ℕ)
 terms_from done [] = done
 terms_from done (n ∷ ns) = terms_from (done ++ term n (child_texts done n) ∷ []) ns
+
+-- what the rules make of some node that fits a graph, whose nodes are written as their terms
+pub record Gives (text : List ℕ) : Type 0 where
+  pub graph : Graph
+  pub node : Node
+  pub fits : IsSome (fits_width graph node)
+  pub picked : IsPicked graph (terms_from [] graph.nodes) node text
+
+-- a line says of a sample of a row what the rules made of it, which isn't what was wanted
+pub record Tells (row sample wanted line : List ℕ) : Type 0 where
+  pub got : List ℕ
+  pub given : Gives got
+  pub other : got ≢ wanted
+  pub line_is : line ≡ row ++ (codes ": " ++ (sample ++ (codes " gives " ++ (got ++ (codes ", wanted " ++ wanted)))))

@@ -1,7 +1,8 @@
 //! The rows of the table.
 
-ghost use Rattle.std.specs.Prelude.{◌≡◌, ◌≢◌, ◌++◌, codes, string_bytes, IfOk, IfSome, IsTrue};
+ghost use Rattle.std.specs.Prelude.{◌≡◌, ◌≢◌, ◌++◌, ◌⊎◌, codes, string_bytes, IfOk, IsFalse, IsTrue, MatchOption};
 ghost use Rattle.std.specs.Str.{trim};
+ghost use Rattle.rule_rows.specs.Terms.{Gives, Tells};
 
 use crate::fault::Fault;
 use crate::reading::read;
@@ -62,7 +63,7 @@ fn sample_of<'a>(term: &'a str, outcome: &'a str) -> Sample<'a>
 
 /// What the rules make of a sample's term, where it isn't what it should be.
 fn other_result(alloc: Global, sample: Sample) -> Result<Option<String>, Fault>
-    ensures { IfOk result (λ other. IfSome other (λ got. string_bytes got ≢ sample.entry.outcome.now)) }
+    ensures { IfOk result (λ other. MatchOption other (Gives sample.entry.outcome.now) (λ got. Gives (string_bytes got) × (string_bytes got ≢ sample.entry.outcome.now))) }
 {
     let mut terms = Terms::begin(alloc)?;
     let node = read(alloc, &mut terms, sample.term)?;
@@ -76,7 +77,8 @@ fn other_result(alloc: Global, sample: Sample) -> Result<Option<String>, Fault>
 
 /// What is to be said of a row: that it is right, or what is wrong with it.
 pub(crate) fn compared(alloc: Global, row: Row) -> Result<Report, Fault>
-    ensures { IfOk result (λ report. IsTrue report.right → string_bytes report.text ≡ row.entry.name.now ++ codes ": ok") }
+    ensures right { IfOk result (λ report. IsTrue report.right → Gives row.entry.example.outcome.now × Gives row.entry.miss.outcome.now × (string_bytes report.text ≡ row.entry.name.now ++ codes ": ok")) }
+    ensures wrong { IfOk result (λ report. IsFalse report.right → Tells row.entry.name.now (codes "example") row.entry.example.outcome.now (string_bytes report.text) ⊎ Tells row.entry.name.now (codes "near miss") row.entry.miss.outcome.now (string_bytes report.text)) }
 {
     let name = row.name;
     if let Some(got) = other_result(alloc, row.example)? {

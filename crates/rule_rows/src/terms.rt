@@ -1,9 +1,10 @@
 //! A graph whose nodes are known by their terms.
 
-ghost use Rattle.std.specs.Prelude.{◌≡◌, ◌≤◌, [], ◌∷◌, map, string_bytes, IfOk, IsSome};
+ghost use Rattle.std.specs.Prelude.{◌≡◌, ◌≤◌, [], ◌∷◌, map, string_bytes, IfOk, IsSome, MatchResult};
 ghost use Rattle.axe_io.specs.Shapes.{leaf_widths};
-ghost use Rattle.rule_rows.specs.Terms.{IsPicked, term, plan_text as plan_text_of, text_at as text_at_of, id_text as id_text_of, step_texts, child_texts, terms_from};
-ghost use Rattle.dag.specs.Graph.{Adds, fits_width};
+ghost use Rattle.rule_rows.specs.Terms.{IsNamed, IsPicked, term, plan_text as plan_text_of, text_at as text_at_of, id_text as id_text_of, step_texts, child_texts, terms_from};
+ghost use Rattle.dag.specs.Graph.{Adds, fits_width, leaves_of};
+ghost use Rattle.dag.specs.declared.node.Node.{Node};
 ghost use Rattle.dag.specs.declared.node.Node.TheVariants.{Const};
 ghost use Rattle.bv_rules.specs.Plans.{Views};
 
@@ -36,7 +37,9 @@ impl Terms {
     }
 
     /// The leaf or the constant that a word names.
-    pub(crate) fn word(&self, word: &str) -> Result<Node, Fault> {
+    pub(crate) fn word(&self, word: &str) -> Result<Node, Fault>
+        ensures { MatchResult result (IsNamed (leaves_of self.now.dag) word.now) (λ _. (n : Node) → IsNamed (leaves_of self.now.dag) word.now n → ⊥) }
+    {
         match leaf(self.dag.shape(), word) {
             Some(node) => Ok(node),
             None => constant(word).ok_or(Fault::Word),
@@ -62,7 +65,8 @@ impl Terms {
 
     /// The term that the rules make of a node in one step, or `none`.
     pub(crate) fn picked(&self, node: Node) -> Result<String, Fault>
-        ensures { IfOk result (λ text. IsPicked self.now.dag (map string_bytes self.now.texts.items) node (string_bytes text)) }
+        ensures fits { IfOk result (λ _. IsSome (fits_width self.now.dag node)) }
+        ensures picked { IfOk result (λ text. IsPicked self.now.dag (map string_bytes self.now.texts.items) node (string_bytes text)) }
     {
         if !self.dag.fits(node) {
             return Err(Fault::Width);

@@ -1,6 +1,7 @@
 //! The words for nodes.
 
-ghost use Rattle.std.specs.Prelude.{◌≡◌, [], ◌∷◌, ◌++◌, map, slice_index_or, codes, string_bytes, IfOk, IfSome};
+ghost use Rattle.std.specs.Prelude.{◌≡◌, ◌≢◌, [], ◌∷◌, ◌++◌, map, slice_index_or, codes, string_bytes, IfOk, MatchOption};
+ghost use Rattle.dag.specs.declared.node.Node.{Node};
 ghost use Rattle.axe_io.specs.Shapes.{leaf_widths};
 ghost use Rattle.rule_rows.specs.Terms.{name as name_is, IsLeaf, IsConstant, IsOperation, leaf_names, term, with_children as with_children_is};
 
@@ -16,7 +17,7 @@ pub(crate) const LEAVES: [&str; 12] = [
 
 /// The leaf of a name.
 pub(crate) fn leaf(shape: &Shape, word: &str) -> Option<Node>
-    ensures { IfSome result (IsLeaf (leaf_widths shape.now.params)) }
+    ensures { MatchOption result ((n : Node) → IsLeaf (leaf_widths shape.now.params) word.now n → ⊥) (IsLeaf (leaf_widths shape.now.params) word.now) }
 {
     let index = LEAVES.iter().position(|name| *name == word)? as u32;
     let width = shape.width_at(index)?;
@@ -32,7 +33,7 @@ fn leaf_name(index: u32) -> &'static str
 
 /// The constant that a word gives as `value:width`.
 pub(crate) fn constant(word: &str) -> Option<Node>
-    ensures { IfSome result IsConstant }
+    ensures { MatchOption result ((n : Node) → IsConstant word.now n → ⊥) (IsConstant word.now) }
 {
     let (value, width) = word.split_once(':')?;
     let value = value.parse::<u64>().ok()?;
@@ -67,7 +68,7 @@ pub(crate) fn name_of(node: Node) -> &'static str
 
 /// A node, if it has a name.
 fn named(name: &str, node: Node) -> Option<Node>
-    ensures { IfSome result (λ n. (n ≡ node) × (name_is n ≡ name.now)) }
+    ensures { MatchOption result (name_is node ≢ name.now) (λ n. (n ≡ node) × (name_is n ≡ name.now)) }
 {
     if name_of(node) == name {
         Some(node)
@@ -78,7 +79,7 @@ fn named(name: &str, node: Node) -> Option<Node>
 
 /// The node of a name with these numbers and children.
 pub(crate) fn operation(name: &str, numbers: &[u32], children: &[NodeId]) -> Option<Node>
-    ensures { IfSome result (IsOperation name.now numbers.now children.now) }
+    ensures { MatchOption result ((n : Node) → IsOperation name.now numbers.now children.now n → ⊥) (IsOperation name.now numbers.now children.now) }
 {
     match (numbers, children) {
         ([], [a]) => unary(name, *a),
@@ -105,14 +106,14 @@ pub(crate) fn operation(name: &str, numbers: &[u32], children: &[NodeId]) -> Opt
 
 /// The node of a name over one child.
 fn unary(name: &str, a: NodeId) -> Option<Node>
-    ensures { IfSome result (IsOperation name.now [] (a ∷ [])) }
+    ensures { MatchOption result ((n : Node) → IsOperation name.now [] (a ∷ []) n → ⊥) (IsOperation name.now [] (a ∷ [])) }
 {
     first_of!(named(name, Node::Not(a)), named(name, Node::Neg(a)))
 }
 
 /// The node of a name over two children.
 fn binary(name: &str, a: NodeId, b: NodeId) -> Option<Node>
-    ensures { IfSome result (IsOperation name.now [] (a ∷ b ∷ [])) }
+    ensures { MatchOption result ((n : Node) → IsOperation name.now [] (a ∷ b ∷ []) n → ⊥) (IsOperation name.now [] (a ∷ b ∷ [])) }
 {
     first_of!(
         named(name, Node::And(a, b)),
