@@ -24,11 +24,12 @@ IsLonger None limit = Unit {0}
 IsLonger (Some None) limit = ⊥
 IsLonger (Some (Some bytes)) limit = limit < length bytes
 
--- when a read fails: told is what the store tells of the name, before and now are its counts of faults
+-- when a read gives nothing: told is what the store tells of the name, before and now are its counts of faults. Where
+-- nothing stands there it has failed, and only where it has failed may the count rise
 abbrev pub HasReadCause : Told → ℕ → ℕ → ℕ → StoreError → Type 0
 HasReadCause told limit before now Failed = Rose before now ⊎ (told ≡ Some None)
-HasReadCause told limit before now (TooLong named) = (named ≡ limit) × IsLonger told limit
-HasReadCause told limit before now Memory = Unit {0}
+HasReadCause told limit before now (TooLong named) = (named ≡ limit) × IsLonger told limit × (now ≡ before)
+HasReadCause told limit before now Memory = (told ≡ Some None → ⊥) × (now ≡ before)
 
 -- what was written has grown by the text, where that is told
 abbrev pub Appends : Option (List ℕ) → Option (List ℕ) → List ℕ → Type 0

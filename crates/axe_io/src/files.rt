@@ -20,7 +20,9 @@ impl<R: Files> Drop for FileStore<'_, R> {
 
 impl<'a, R: Files> FileStore<'a, R> {
     /// The files that the runtime reaches, with no error counted yet.
-    pub fn new(rt: &'a R) -> FileStore<'a, R> {
+    pub fn new(rt: &'a R) -> FileStore<'a, R>
+        ensures { result.faults ≡ 0 }
+    {
         FileStore { rt, faults: 0 }
     }
 }

@@ -18,7 +18,9 @@ impl<P: Print> Drop for OutputSink<'_, P> {
 
 impl<'a, P: Print> OutputSink<'a, P> {
     /// The output that the runtime prints to, with no error counted yet.
-    pub fn new(to: &'a P) -> OutputSink<'a, P> {
+    pub fn new(to: &'a P) -> OutputSink<'a, P>
+        ensures { result.faults ≡ 0 }
+    {
         OutputSink { to, faults: 0 }
     }
 }

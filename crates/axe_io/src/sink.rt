@@ -1,4 +1,4 @@
-ghost use Rattle.std.specs.Prelude.{◌≡◌, ◌⊎◌, ℕ, ◌≤◌, ◌<◌, [], List, Option, Some, None, IfOk, IfErr, OnErr, MatchResult, length};
+ghost use Rattle.std.specs.Prelude.{◌≡◌, ◌⊎◌, ℕ, ◌≤◌, ◌<◌, [], List, Option, Some, None, IfOk, OnOk, IfErr, OnErr, MatchResult, length};
 ghost use Rattle.axe_io.specs.Ends.{Appends, Rose, taken_of, written_by, written_count};
 
 use std::alloc::Global;
@@ -29,21 +29,25 @@ pub trait Sink {
 
     /// Takes some first bytes and answers how many.
     ///
-    /// Failed, and 0 for a piece that isn't empty, come only where the count of faults rose; Failed takes nothing.
+    /// Failed, and 0 for a piece that isn't empty, come only where the count of faults rose, and where bytes are taken
+    /// it stays; Failed takes nothing.
     fn write(&mut self, bytes: &[u8]) -> Result<usize, SinkError>
         ensures within { IfOk result (λ n. n ≤ length bytes.now) }
         ensures grows { Appends (written self.old) (written self.new) (taken_of result bytes.now) }
         ensures nothing { result ≡ Ok 0 → (bytes.now ≡ []) ⊎ Rose (faults self.old) (faults self.new) }
+        ensures taken { IfOk result (λ n. 0 < n → faults self.new ≡ faults self.old) }
         ensures failed { OnErr result (Rose (faults self.old) (faults self.new)) }
         ensures counts { faults self.old ≤ faults self.new };
 }
 
 /// Writes all the bytes, by as many writes as it takes.
 ///
-/// Both refusals come only where the sink's count of faults rose, and tell how many first bytes were appended.
+/// Both refusals come only where the sink's count of faults rose, and tell how many first bytes were appended; where all
+/// is written it stays.
 pub fn write_all<K: Sink>(out: &mut K, bytes: &[u8]) -> Result<(), WriteEnd>
     ensures grows { Appends (K.written out.old) (K.written out.new) (written_by result bytes.now) }
     ensures within { IfErr result (λ end. written_count end < length bytes.now) }
+    ensures whole { OnOk result (K.faults out.new ≡ K.faults out.old) }
     ensures failed { OnErr result (Rose (K.faults out.old) (K.faults out.new)) }
     ensures counts { K.faults out.old ≤ K.faults out.new }
 {

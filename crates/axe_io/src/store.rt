@@ -27,12 +27,15 @@ pub trait Store {
 
     /// Reads what stands under a name: at most `limit` bytes.
     ///
-    /// Failed comes only where the count of faults rose, or where the store tells that nothing stands there; TooLong
-    /// only where the content is longer than `limit`, where that is told. What is held stays.
+    /// Failed comes only where the count of faults rose, or where the store tells that nothing stands there, and then
+    /// no other end does; TooLong only where the content is longer than `limit`, where that is told. The count rises
+    /// only where a read has failed, and what is held stays.
     fn read(&mut self, alloc: Global, name: &str, limit: usize) -> Result<Vec<u8>, StoreError>
         ensures within { IfOk result (λ bytes. vec_len bytes ≤ limit) }
         ensures content { IfOk result (λ bytes. IsContent (holds self.old name.now) bytes.items) }
-        ensures cause { MatchResult result (λ _. Unit {0}) (HasReadCause (holds self.old name.now) limit (faults self.old) (faults self.new)) }
+        ensures cause { MatchResult result
+            (λ _. faults self.new ≡ faults self.old)
+            (HasReadCause (holds self.old name.now) limit (faults self.old) (faults self.new)) }
         ensures kept { (other : List ℕ) → holds self.new other ≡ holds self.old other }
         ensures counts { faults self.old ≤ faults self.new };
 }
