@@ -80,11 +80,15 @@ IsRight words holds answer = RefusesWords words answer ⊎ AnswersJob words hold
 
 -- ---- causes
 
--- nothing stands under a name of the words
-abbrev pub IsMissing : Words → (List ℕ → Told) → Type 0
-IsMissing w holds = (holds w.class ≡ Some None) ⊎ (holds w.spec ≡ Some None)
+-- the class has the method, and nothing stands under the specification's name
+abbrev pub LacksSpec : Words → (List ℕ → Told) → Type 0
+LacksSpec w holds = (class : Option (List ℕ)) × IsGiven (holds w.class) class × MatchResult (method_stage w class) (λ _. holds w.spec ≡ Some None) (λ _. ⊥)
 
--- the words mean a job, and nothing stands under one of its names
+-- nothing stands under a name when it is read: the class is read first, and the specification once its method is found
+abbrev pub IsMissing : Words → (List ℕ → Told) → Type 0
+IsMissing w holds = (holds w.class ≡ Some None) ⊎ LacksSpec w holds
+
+-- the words mean a job, and nothing stands under a name of it when that is read
 pub record LacksContent (words : List (List ℕ)) (holds : List ℕ → Told) : Type 0 where
   pub job : Job
   pub means : IsJob words job

@@ -40,10 +40,10 @@ answer a = record { verdict = a.verdict; shape = a.shape; class = a.class }
 abbrev pub text : Answer → List ℕ
 text answer = text_of answer.shape answer.class answer.verdict
 
--- why no answer was reached
+-- why a job stopped; a fault of the store is no want of memory
 abbrev pub HasStopCause : List (List ℕ) → (List ℕ → Told) → ℕ → ℕ → Stop → Type 0
 HasStopCause words holds before now stop.ReadFault = Rose before now ⊎ LacksContent words holds
-HasStopCause words holds before now stop.Memory = Unit {0}
+HasStopCause words holds before now stop.Memory = now ≡ before
 HasStopCause words holds before now (stop.Refused refusal) = ⊥
 
 -- the status where no answer was reached; a refusal is an answer
@@ -52,26 +52,30 @@ stop_status stop.ReadFault = ReadFault
 stop_status stop.Memory = NoMemory
 stop_status (stop.Refused refusal) = NoMemory
 
--- no answer was reached, and nothing was written
-abbrev pub NoAnswer : List (List ℕ) → (List ℕ → Told) → ℕ → ℕ → Option (List ℕ) → Option (List ℕ) → Status → Type 0
-NoAnswer words holds before now old new ReadFault = (Rose before now ⊎ LacksContent words holds) × Appends old new []
-NoAnswer words holds before now old new NoMemory = Appends old new []
-NoAnswer words holds before now old new _ = ⊥
+-- nothing was written, and no write failed
+abbrev pub WroteNothing : Option (List ℕ) → Option (List ℕ) → ℕ → ℕ → Type 0
+WroteNothing old new before now = Appends old new [] × (now ≡ before)
+
+-- why no answer was reached
+abbrev pub HasNoAnswer : List (List ℕ) → (List ℕ → Told) → ℕ → ℕ → Status → Type 0
+HasNoAnswer words holds before now ReadFault = Rose before now ⊎ LacksContent words holds
+HasNoAnswer words holds before now NoMemory = now ≡ before
+HasNoAnswer words holds before now _ = ⊥
 
 -- the text of an answer was written, or its beginning where the sink failed, or nothing where memory ran out
 abbrev pub Wrote : Answer → Option (List ℕ) → Option (List ℕ) → ℕ → ℕ → Status → Type 0
 Wrote answer old new before now WriteFault = Rose before now × ((n : ℕ) × Appends old new (take n (text answer)))
-Wrote answer old new before now NoMemory = Appends old new []
+Wrote answer old new before now NoMemory = WroteNothing old new before now
 Wrote answer old new before now ReadFault = ⊥
-Wrote answer old new before now status = (status ≡ status_of answer.verdict) × Appends old new (text answer)
+Wrote answer old new before now status = (status ≡ status_of answer.verdict) × Appends old new (text answer) × (now ≡ before)
 
--- what a run gave: no answer, or what was written of the right one
+-- what a run gave: no answer, or, where no read failed, what was written of the right one
 abbrev pub RunEnds : List (List ℕ) → (List ℕ → Told) → ℕ → ℕ → Option (List ℕ) → Option (List ℕ) → ℕ → ℕ → Status → Type 0
 RunEnds words holds read_before read_now old new before now status =
-    NoAnswer words holds read_before read_now old new status ⊎ ((answer : Answer) × IsRight words holds answer × Wrote answer old new before now status)
+    (HasNoAnswer words holds read_before read_now status × WroteNothing old new before now) ⊎ ((read_now ≡ read_before) × ((answer : Answer) × IsRight words holds answer × Wrote answer old new before now status))
 
 -- what the program writes where the system gave it no words: a word that is no text is refused as one that isn't of the
 -- command's form
 abbrev pub WroteWithoutWords : NoWords → Option (List ℕ) → Option (List ℕ) → ℕ → ℕ → Status → Type 0
 WroteWithoutWords NotText old new before now status = Wrote (refusal (BadWords (words_error.Refused InvalidValue))) old new before now status
-WroteWithoutWords OutOfMemory old new before now status = (status ≡ NoMemory) × Appends old new []
+WroteWithoutWords OutOfMemory old new before now status = (status ≡ NoMemory) × WroteNothing old new before now

@@ -62,7 +62,7 @@ fn words_of(job: &Job) -> Words<'_>
 /// The answer to the words of a job: what they mean, what the store holds for it, and the verdict by trying.
 pub fn answer_to<S: Store>(alloc: Global, words: &[String], store: &mut S) -> Result<Answer, Stop>
     ensures { MatchResult result
-        (λ a. IsRight (map string_bytes words.now) (S.holds store.old) (answer a))
+        (λ a. IsRight (map string_bytes words.now) (S.holds store.old) (answer a) × (S.faults store.new ≡ S.faults store.old))
         (HasStopCause (map string_bytes words.now) (S.holds store.old) (S.faults store.old) (S.faults store.new)) }
 {
     match read_words(alloc, words) {
@@ -76,7 +76,7 @@ pub fn answer_to<S: Store>(alloc: Global, words: &[String], store: &mut S) -> Re
 fn answer_to_job<S: Store>(alloc: Global, words: &Words<'_>, store: &mut S) -> Result<Answer, Stop>
     requires { HasFewSizes (meant words.now) }
     ensures { MatchResult result
-        (λ a. IsJobAnswer (meant words.now) (S.holds store.old) (answer a))
+        (λ a. IsJobAnswer (meant words.now) (S.holds store.old) (answer a) × (S.faults store.new ≡ S.faults store.old))
         (HasJobStopCause (meant words.now) (S.holds store.old) (S.faults store.old) (S.faults store.new)) }
 {
     match find(alloc, words, store) {

@@ -15,7 +15,7 @@ use std::alloc::Global;
 pub fn find<S: Store>(alloc: Global, words: &Words<'_>, store: &mut S) -> Result<Parts, Stop>
     requires { HasFewSizes (meant words.now) }
     ensures found { MatchResult result
-        (λ p. IsFound (meant words.now) (S.holds store.old) (Ok (parts p)))
+        (λ p. IsFound (meant words.now) (S.holds store.old) (Ok (parts p)) × (S.faults store.new ≡ S.faults store.old))
         (HasFindCause (meant words.now) (S.holds store.old) (S.faults store.old) (S.faults store.new)) }
     ensures within { IfOk result (λ p. (p.method.0 < length p.class.methods) × (p.function.0 < length p.program.functions)) }
 {

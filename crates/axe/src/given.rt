@@ -1,6 +1,6 @@
 ghost use Rattle.std.specs.Prelude.{◌≡◌, ◌≤◌, ℕ, List, IfOk, MatchResult, vec_len};
 ghost use Rattle.axe_io.specs.Ends.{IsContent};
-ghost use Rattle.axe.specs.Causes.{HasGivenCause, refused_long};
+ghost use Rattle.axe.specs.Causes.{HasGivenCause, refused_long, stop_of};
 
 use crate::parts::Stop;
 use axe_io::{Store, StoreError};
@@ -27,7 +27,19 @@ fn too_long(named: Named) -> Refusal
     }
 }
 
+/// Why a read that failed stops the job.
+fn stop_of(error: StoreError, named: Named) -> Stop
+    ensures { result ≡ stop_of error named }
+{
+    match error {
+        StoreError::Failed => Stop::ReadFault,
+        StoreError::TooLong { limit: _ } => Stop::Refused(too_long(named)),
+        StoreError::Memory => Stop::Memory,
+    }
+}
+
 /// What stands under a name.
+#[tactic(auto, using(crate::proofs::Finding::read_stops))]
 pub fn given<S: Store>(
     alloc: Global,
     name: &str,
@@ -36,14 +48,14 @@ pub fn given<S: Store>(
 ) -> Result<Vec<u8>, Stop>
     ensures content { IfOk result (λ bytes. IsContent (S.holds store.old name.now) bytes.items) }
     ensures within { IfOk result (λ bytes. vec_len bytes ≤ 1048576) }
-    ensures cause { MatchResult result (λ _. Unit {0}) (HasGivenCause (S.holds store.old name.now) named (S.faults store.old) (S.faults store.new)) }
+    ensures cause { MatchResult result
+        (λ _. S.faults store.new ≡ S.faults store.old)
+        (HasGivenCause (S.holds store.old name.now) named (S.faults store.old) (S.faults store.new)) }
     ensures kept { (other : List ℕ) → S.holds store.new other ≡ S.holds store.old other }
     ensures counts { S.faults store.old ≤ S.faults store.new }
 {
     match store.read(alloc, name, LONGEST) {
         Ok(bytes) => Ok(bytes),
-        Err(StoreError::Failed) => Err(Stop::ReadFault),
-        Err(StoreError::TooLong { limit: _ }) => Err(Stop::Refused(too_long(named))),
-        Err(StoreError::Memory) => Err(Stop::Memory),
+        Err(error) => Err(stop_of(error, named)),
     }
 }

@@ -16,9 +16,9 @@ use verdict_text::{Refusal, verdict_text};
 ///
 /// `out` grows by the text of a verdict that is right for the words and for what the store holds, and the status is
 /// the verdict's. At WriteFault, which comes only where the sink's count of faults rose, it grows by a beginning of
-/// that text; at ReadFault, which comes only where the store's count rose or where nothing stands under a name of
-/// the job, and at NoMemory it grows by nothing. Every input is tried, on one thread: the runtime and the gate aren't
-/// used.
+/// that text; at ReadFault, which comes only where the store's count rose or where nothing stands under the class's
+/// name or, once the class has the method, under the specification's, and at NoMemory it grows by nothing. Every input
+/// is tried, on one thread: the runtime and the gate aren't used.
 pub fn run<R: Threads + Wait + Sync, S: Store, K: Sink, G: Gate + Sync>(
     _rt: &R,
     alloc: Global,
