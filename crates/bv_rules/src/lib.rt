@@ -6,7 +6,9 @@
 //!
 //! - `plan`: views, plans and their makers
 //! - `gate`: the test that a plan fits, keeps the width and isn't dear; the proof of a rule is its value alone
-//! - `neutral`, `absorbing`, `equal`, `order`, `choices`, `cuts`: the rules, family by family
+//! - `neutral`, `absorbing`, `folding`, `equal`, `order`, `choices`, `comparisons`, `opposite`, `nests`, `gather`,
+//!   `masks`, `cuts`, `joints`, `extensions`, `rotations`: the rules, family by family
+//! - `matching`: what several families look for
 //! - `picking`: the first rule that applies
 //!
 //! `specs/Plans.antt` says what a plan is and what it keeps; `docs` of each rule name its pattern and its result.
@@ -33,4 +35,4 @@ mod plan;
 mod rotations;
 
 pub use picking::pick;
-pub use plan::{NodeView, Plan, PlanId, PlanNode};
+pub use plan::{NodeView, Plan, PlanId, PlanNode, view_of};

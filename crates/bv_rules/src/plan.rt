@@ -1,11 +1,12 @@
 //! Views and plans.
 
-ghost use Rattle.std.specs.Prelude.{◌≡◌, IsTrue, IfSome};
-ghost use Rattle.bv_rules.specs.Plans.{IsConst, blank as blank_step, step as step_of, same_plan, one_plan, two_plan, three_plan};
+ghost use Rattle.std.specs.Prelude.{◌≡◌, IsSome, IsTrue, IfSome};
+ghost use Rattle.dag.specs.Graph.{fits_width};
+ghost use Rattle.bv_rules.specs.Plans.{Views, IsConst, blank as blank_step, step as step_of, same_plan, one_plan, two_plan, three_plan};
 ghost use Rattle.dag.specs.declared.node.Node.TheVariants.{Const};
 ghost use Rattle.bv_rules.specs.declared.plan.PlanId.TheVariants.{Old, New};
 
-use dag::{Node, NodeId};
+use dag::{Dag, Node, NodeId};
 
 /// A node with the nodes of its children.
 #[derive(Clone, Copy, Debug)]
@@ -14,6 +15,29 @@ pub struct NodeView {
     pub node: Node,
     /// The nodes that the graph has at its children in order, and None past them.
     pub children: [Option<Node>; 3],
+}
+
+/// A node with the nodes that the graph has at its children.
+pub fn view_of(dag: &Dag, node: Node) -> NodeView
+    requires { IsSome (fits_width dag.now node) }
+    ensures node { result.node ≡ node }
+    ensures view { Views dag.now node result.children }
+{
+    let children = node.children();
+    let mut nodes = [None; 3];
+    if children.count > 0 {
+        nodes[0] = dag.node_at(children.ids[0]);
+    }
+    if children.count > 1 {
+        nodes[1] = dag.node_at(children.ids[1]);
+    }
+    if children.count > 2 {
+        nodes[2] = dag.node_at(children.ids[2]);
+    }
+    NodeView {
+        node,
+        children: nodes,
+    }
 }
 
 /// A node that a plan names.

@@ -1,5 +1,5 @@
 -- Building a node: a plan's nodes are placed one after another, and what is added is counted.
-use Rattle.std.specs.Prelude.{◌≡◌, ℕ, ◌+◌, ◌-◌, ◌^◌, ◌≤◌, min, Option, Some, None, List, [], ◌∷◌, length, map, slice_get, slice_index, slice_index_or}
+use Rattle.std.specs.Prelude.{◌≡◌, ℕ, ◌+◌, ◌-◌, ◌^◌, ◌<◌, ◌≤◌, min, Option, Some, None, List, [], ◌∷◌, length, map, slice_get, slice_index, slice_index_or}
 use Rattle.dag.specs.declared.node.NodeId.{NodeId}
 use Rattle.dag.specs.declared.node.Node.{Node}
 use Rattle.dag.specs.declared.graph.DagError.{DagError}
@@ -24,10 +24,10 @@ pub record IsCounted (before after : Charge) (old new : Graph) : Type 0 where
   pub more : length old.nodes ≤ length new.nodes
   pub dearer : graph_charge old ≤ graph_charge new
 
--- Full only where the graph holds as many nodes as it may
+-- Full only where the graph holds as many nodes as it may, and Memory only where it holds fewer
 abbrev pub BuildFails : Graph → DagError → Type 0
 BuildFails g (Full limit) = (length g.nodes ≡ g.limit) × (limit ≡ g.limit)
-BuildFails g Memory = Unit {0}
+BuildFails g Memory = length g.nodes < g.limit
 
 -- the node of the graph that an id of a plan stands for, once the plan's first nodes have these places
 abbrev pub resolve : List NodeId → PlanId → NodeId

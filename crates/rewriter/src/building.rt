@@ -2,12 +2,12 @@
 
 ghost use Rattle.std.specs.Prelude.{◌≡◌, ℕ, ◌*◌, IsSome, IsTrue, IfSome, IfOk, IfErr};
 ghost use Rattle.dag.specs.Graph.{fits_width, Makes, Extends, Costs, charge_in};
-ghost use Rattle.bv_rules.specs.Plans.{Views, Keeps};
+ghost use Rattle.bv_rules.specs.Plans.{Keeps};
 ghost use Rattle.rewriter.specs.Building.{IsCounted, BuildFails, resolve as resolve_of, placed as placed_of, IsLike, IsPresent};
 ghost use Rattle.bv_rules.specs.declared.plan.PlanId.{PlanId};
 ghost use Rattle.bv_rules.specs.declared.plan.PlanId.TheVariants.{New, Old};
 
-use bv_rules::{NodeView, Plan, PlanId, PlanNode, pick};
+use bv_rules::{Plan, PlanId, PlanNode, pick, view_of};
 use dag::{Dag, DagError, Node, NodeId};
 
 /// What building has added to a graph. Each count stands still at its type's end.
@@ -23,8 +23,8 @@ pub struct Charge {
 /// again, up to eight times, and the first other plan is added. Where no rule applies the node itself is added.
 ///
 /// It adds at most 16 nodes, whose charges together are at most four times the asked node's, and counts both in
-/// `charge`. Full only where the graph holds its limit of nodes. After a refusal the graph has its old nodes as a
-/// prefix, and what was added until then is counted.
+/// `charge`. Full only where the graph holds its limit of nodes, and Memory only where it holds fewer. After a refusal
+/// the graph has its old nodes as a prefix, and what was added until then is counted.
 pub fn build(dag: &mut Dag, node: Node, charge: &mut Charge) -> Result<NodeId, DagError>
     requires { IsSome (fits_width dag.old node) }
     ensures makes { IfOk result (λ id. Makes dag.old dag.new node id.0) }
@@ -126,29 +126,6 @@ fn place_like(
 {
     let id = place_no_dearer(dag, asked, node, charge)?;
     Ok(id)
-}
-
-/// A node with the nodes that the graph has at its children.
-fn view_of(dag: &Dag, node: Node) -> NodeView
-    requires { IsSome (fits_width dag.now node) }
-    ensures node { result.node ≡ node }
-    ensures view { Views dag.now node result.children }
-{
-    let children = node.children();
-    let mut nodes = [None; 3];
-    if children.count > 0 {
-        nodes[0] = dag.node_at(children.ids[0]);
-    }
-    if children.count > 1 {
-        nodes[1] = dag.node_at(children.ids[1]);
-    }
-    if children.count > 2 {
-        nodes[2] = dag.node_at(children.ids[2]);
-    }
-    NodeView {
-        node,
-        children: nodes,
-    }
 }
 
 /// Adds a node as it is, and counts it where it is new.

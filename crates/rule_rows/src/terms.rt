@@ -6,12 +6,11 @@ ghost use Rattle.rule_rows.specs.Terms.{IsNamed, IsPicked, term, plan_text as pl
 ghost use Rattle.dag.specs.Graph.{Adds, fits_width, leaves_of};
 ghost use Rattle.dag.specs.declared.node.Node.{Node};
 ghost use Rattle.dag.specs.declared.node.Node.TheVariants.{Const};
-ghost use Rattle.bv_rules.specs.Plans.{Views};
 
 use crate::fault::Fault;
 use crate::words::{constant, leaf, term_of};
 use axe_io::{Kind, OutPlace, Param, Shape};
-use bv_rules::{NodeView, Plan, PlanId, PlanNode, pick};
+use bv_rules::{Plan, PlanId, PlanNode, pick, view_of};
 use dag::{Dag, Node, NodeId};
 use std::alloc::{AllocError, Global};
 
@@ -174,27 +173,4 @@ fn shape(alloc: Global) -> Result<Shape, AllocError>
     ];
     let params = Vec::from_slice(alloc, &params)?;
     Ok(Shape::of(params, OutPlace::Returned, Kind::Int, false))
-}
-
-/// A node with the nodes that the graph has at its children.
-fn view_of(dag: &Dag, node: Node) -> NodeView
-    requires { IsSome (fits_width dag.now node) }
-    ensures node { result.node ≡ node }
-    ensures view { Views dag.now node result.children }
-{
-    let children = node.children();
-    let mut nodes = [None; 3];
-    if children.count > 0 {
-        nodes[0] = dag.node_at(children.ids[0]);
-    }
-    if children.count > 1 {
-        nodes[1] = dag.node_at(children.ids[1]);
-    }
-    if children.count > 2 {
-        nodes[2] = dag.node_at(children.ids[2]);
-    }
-    NodeView {
-        node,
-        children: nodes,
-    }
 }
