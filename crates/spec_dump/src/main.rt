@@ -2,6 +2,10 @@
 //! `spec_dump FILE`, or, to time the reader, `spec_dump FILE N`, which reads the file N times.
 #![tactic(auto)]
 
+ghost use Rattle.std.specs.Prelude.{◌<◌, ◌↔◌, length, IsNone, IfSome};
+ghost use Rattle.spec_reader.specs.Reading.{Gives};
+ghost use Rattle.spec_reader.specs.Programs.{program_of};
+
 use spec_reader::{Program, SpecError, read_spec};
 use std::alloc::Global;
 use std::{env, fs, io};
@@ -36,7 +40,10 @@ fn main(rt: HostRuntime) -> io::Result<()> {
 }
 
 /// The program of a text, none where the text is longer than a specification may be.
-fn read(alloc: Global, text: &[u8]) -> Option<Result<Program, SpecError>> {
+fn read(alloc: Global, text: &[u8]) -> Option<Result<Program, SpecError>>
+    ensures long { IsNone result ↔ (1048576 < length text.now) }
+    ensures read { IfSome result (λ read. Gives (λ program. program) read (program_of text.now)) }
+{
     if text.len() <= 1_048_576 {
         Some(read_spec(alloc, text))
     } else {
