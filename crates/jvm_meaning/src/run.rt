@@ -32,7 +32,7 @@ impl Machine {
 
     /// The run of a method on an input of its shape, whatever was run before: static fields get their starting
     /// values, the class's initialiser runs, and then the method, with at most `steps` instructions, `frames` open
-    /// frames and `elements` elements that `newarray` makes.
+    /// frames, the first of which is opened in any case, and `elements` elements that `newarray` makes.
     #[tactic(auto, unfolding(crate::specs::Runs::run_end))]
     pub fn run(
         &mut self,
