@@ -4,7 +4,8 @@
 //! of nodes that each one retains and a bound on their places, so that replacing a node that retains itself alone
 //! changes one entry. After `begin` no call takes memory.
 //!
-//! `specs/KeepsValues.antt` says what a table means for a graph: on each input a node has the value of its retained node.
+//! `specs/KeepsValues.antt` says what a table means for a graph: on each input a node has the value of its retained
+//! node.
 #![tactic(auto)]
 
 mod table;

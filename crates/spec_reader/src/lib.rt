@@ -2,7 +2,8 @@
 //!
 //! A specification is a text of a small part of ACL2. Reading it takes five steps, each a function on whole lists
 //! or trees: `token` splits bytes into tokens, `nesting` groups tokens into data by their parentheses, `syntax` and
-//! `definition` read data as expressions and definitions whose names are words, and `resolve` looks these up, with the variables of `scope`.
+//! `definition` read data as expressions and definitions whose names are words, and `resolve` looks these up, with
+//! the variables of `scope`.
 //! `program` puts the steps together, so that the first fault is that of the earliest step.
 #![tactic(auto)]
 
