@@ -5,11 +5,11 @@ use Rattle.std.proofs.lemmas.List.{get_or-take, length-take, take_more, take_all
 use Rattle.std.proofs.lemmas.List.Elements.{Contains-push_cases}
 use Rattle.cnf_clauses.specs.Literal.{Literal, opposite}
 use Rattle.cnf_clauses.specs.declared.lit.ClauseId.{ClauseId}
-use Rattle.clause_log.specs.Resolution.{resolvent, first_places, Step, clause_at, resolvents, StepsAreIn}
+use Rattle.clause_log.specs.Resolution.{resolvent, first_places, Step, clause_at, resolvents, StepsAreIn, IsWithin}
 use Rattle.clause_log.proofs.Resolving.{opposite-opposite, resolvent-within, Contains-resolvent_left, Contains-here, Contains-nil, Contains-first_places, first_places-within, first_places-resolvent, resolvent-first_places, along}
 use Rattle.clause_log.proofs.Logs.{resolvents-push, resolvents-nil, StepsAreIn-push}
 use Rattle.clause_search.specs.Path.{IsFalseIn, AllFalseIn, AllButFalseIn, IsClosedFor, IsTrail, IsReason, Explains, IsSearch}
-use Rattle.clause_search.specs.Learnt.{IsDerivedBy, IsAsserting, IsDerived, IsLearnt, last_start}
+use Rattle.clause_search.specs.Learnt.{IsDerivedBy, IsAsserting, IsCovered, IsDerived, IsLearnt, last_start}
 use Rattle.std.proofs.lemmas.Bool.{cases_eq}
 use Rattle.clause_search.proofs.Paths.{consistent, no_lit, some_same, var_in_range}
 use Rattle.clause_search.proofs.Searches.{front_in, front_within}
@@ -176,6 +176,19 @@ learnt_resolve db start path b n c next steps later u p lit id pos low inside p-
             (resolvent-within lit l c (clause_at db id) (subst (λ (zs : List Literal). Contains zs l) next-is l-in));
       };
     }
+
+-- one more literal of a reason, which a loop over it names
+pub covered_item : (c reason : List Literal) (u : Literal) (i : ℕ) (l : Literal) → i < length reason → l ≡ get_or reason i l → IsCovered c (take i reason) u → ((l ≡ u → ⊥) → Contains c l) → IsCovered c (take (i + 1) reason) u
+covered_item c reason u i l h is all here k k-in ne =
+    ⊎_elim (λ before. all k before ne) (λ same. let k-is : k ≡ l = sym same ∙ sym is in subst (Contains c) (sym k-is) (here (λ e. ne (k-is ∙ e))))
+    (Contains-push_cases (take i reason) (get_or reason i l) k (subst (λ (zs : List Literal). Contains zs k) (take_more reason i l h) k-in))
+
+-- resolving with a covered reason adds no literal
+pub within_covered : (before c reason next : List Literal) (lit follows : Literal) → lit ≡ opposite follows → IsCovered c reason follows → next ≡ resolvent lit c reason → IsWithin c before → IsWithin next before
+within_covered before c reason next lit follows lit-is covered next-is within l l-in =
+    ⊎_elim (λ (left, _). within l left)
+    (λ (right, other). within l (covered l right (λ same. other (same ∙ (sym (opposite-opposite follows) ∙ ap opposite (sym lit-is))))))
+    (resolvent-within lit l c reason (subst (λ (zs : List Literal). Contains zs l) next-is l-in))
 
 -- what is asserted by a clause is asserted by the line that it is made of
 pub asserted_line : (db : List (List Literal)) (start : ClauseId) (path : List Literal) (b : ℕ) (c : List Literal) (steps : List Step) (u : Literal) → IsLearnt db start path b c steps u → IsAsserting path b (resolvents db (clause_at db start) steps) u

@@ -14,6 +14,10 @@ pub record IsDerivedBy (db : List (List Literal)) (start : ClauseId) (c : List L
   pub value : c ≡ first_places (resolvents db (clause_at db start) steps)
   pub steps_in : StepsAreIn (length db) steps
 
+-- all literals of the reason but the one that follows stand in the clause
+abbrev pub IsCovered : List Literal → List Literal → Literal → Type 0
+IsCovered c reason follows = (l : Literal) → Contains reason l → (l ≡ follows → ⊥) → Contains c l
+
 -- the clause is false, with one literal whose variable was assigned at the level that begins at b
 pub record IsAsserting (path : List Literal) (b : ℕ) (c : List Literal) (u : Literal) : Type 0 where
   pub holds_it : Contains c u

@@ -1,9 +1,9 @@
-ghost use Rattle.std.specs.Prelude.{◌≡◌, ◌++◌, ◌∷◌, [], ◌<◌, IfOk, OnOk, Contains, length};
+ghost use Rattle.std.specs.Prelude.{◌≡◌, ◌++◌, ◌∷◌, [], ◌<◌, ◌↔◌, IsTrue, IfOk, OnOk, Contains, length};
 ghost use Rattle.cnf_clauses.specs.Clause.{HasVariablesBelow};
-ghost use Rattle.clause_log.specs.Resolution.{resolvent, resolvents, clause_at, first_places, StepsAreIn};
+ghost use Rattle.clause_log.specs.Resolution.{resolvent, resolvents, clause_at, first_places, StepsAreIn, IsWithin};
 ghost use Rattle.clause_log.specs.Log.{clauses_of};
 ghost use Rattle.clause_search.specs.Path.{AllFalseIn};
-ghost use Rattle.clause_search.specs.Learnt.{IsLearnt, IsAsserting, last_start};
+ghost use Rattle.clause_search.specs.Learnt.{IsLearnt, IsAsserting, IsCovered, last_start};
 ghost use Rattle.clause_search.specs.State.{IsSearching};
 
 use crate::trail::Trail;
@@ -179,16 +179,18 @@ fn minimise(
     ensures variables { scratch.new.variables ≡ scratch.old.variables }
     ensures start { derivation.new.start ≡ derivation.old.start }
     ensures learnt { OnOk result (IsLearnt (clauses_of log.now) derivation.old.start trail.now.path.items (last_start trail.now.starts.items) scratch.new.literals derivation.new.steps.items first) }
+    ensures within { OnOk result (IsWithin scratch.new.literals scratch.old.literals) }
 {
     let mut n = trail.starts[trail.starts.len() - 1];
     'down: while n > 0 {
         n -= 1;
-        let lit = trail.path[n].opposite();
+        let follows = trail.path[n];
+        let lit = follows.opposite();
         if scratch.contains(lit) {
             match trail.reasons[n] {
                 None => {}
                 Some(id) => {
-                    if is_covered(scratch, log.clause(id), trail.path[n]) {
+                    if is_covered(scratch, log.clause(id), follows) {
                         resolve_with(log, scratch, derivation, id, lit)?;
                     }
                 }
@@ -199,7 +201,9 @@ fn minimise(
 }
 
 // Whether all literals of a reason but the one that follows stand in the clause.
-fn is_covered(scratch: &Resolvent, reason: &[Lit], follows: Lit) -> bool {
+fn is_covered(scratch: &Resolvent, reason: &[Lit], follows: Lit) -> bool
+    ensures { IsTrue result ↔ IsCovered scratch.now.literals reason.now follows }
+{
     for l in reason {
         if *l != follows && !scratch.contains(*l) {
             return false;

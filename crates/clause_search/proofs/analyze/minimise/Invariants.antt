@@ -1,5 +1,6 @@
 use Rattle.std.proofs.Common.{◌≡◌, ◌≤◌}
 use Rattle.clause_log.specs.Log.{clauses_of}
+use Rattle.clause_log.specs.Resolution.{IsWithin}
 use Rattle.clause_search.specs.Learnt.{IsLearnt, last_start}
 use Rattle.clause_search.proofs.analyze.minimise.Given as goal
 
@@ -9,6 +10,7 @@ invariant-down l =
     × (l.n ≤ last_start l.trail.starts.items)
     × (l.derivation.start ≡ l.initial.derivation.start)
     × (l.scratch.variables ≡ l.initial.scratch.variables)
+    × IsWithin l.scratch.literals l.initial.scratch.literals
 
 abbrev pub decreases-down : goal.decreases-down
 decreases-down l = l.n
