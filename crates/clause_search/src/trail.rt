@@ -88,7 +88,7 @@ impl Trail {
 
     /// Whether the variable of a literal is one of the trail's and has no place.
     pub fn is_free(&self, l: Lit) -> bool
-        ensures { IsTrue result → (l.var < length self.now.places.items) × (slice_index_or self.now.places.items l.var None ≡ None) }
+        ensures { IsTrue result ↔ ((l.var < length self.now.places.items) × (slice_index_or self.now.places.items l.var None ≡ None)) }
     {
         let at = l.var() as usize;
         at < self.places.len() && self.places[at].is_none()
