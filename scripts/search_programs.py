@@ -9,7 +9,7 @@ import time
 ROOT = os.path.dirname(os.path.dirname(os.path.abspath(__file__)))
 
 
-def built_program(name="search_dimacs"):
+def built_program(name="clause_search_dimacs"):
     """A program of this repository, by default the search. It is built where it isn't there."""
     folder = os.path.join(ROOT, "crates", name)
     program = os.path.join(folder, "out", name)

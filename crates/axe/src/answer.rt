@@ -7,10 +7,11 @@ ghost use Rattle.axe.specs.Runs.{HasStopCause, answer};
 
 use crate::find::find;
 use crate::parts::{Parts, Stop, Words};
-use axe_io::{Memory, Shape, Store};
+use axe_io::{Shape, Store};
 use axe_words::{Job, WordsError, read_words};
 use class_reader::ClassFile;
 use job_meaning::Job as Pair;
+use memory::Memory;
 use std::alloc::Global;
 use verdict_text::{Refusal, Verdict, exhaust};
 

@@ -3,7 +3,7 @@
 
 use crate::status::Status;
 use crate::tests::{outcome, push_text};
-use axe_io::Memory;
+use memory::Memory;
 use std::alloc::Global;
 use std::test::Fail;
 

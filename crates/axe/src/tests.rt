@@ -1,6 +1,7 @@
 use crate::run::run;
 use crate::status::Status;
-use axe_io::{Memory, MemorySink, MemoryStore, OpenGate, Stored};
+use axe_io::{MemorySink, MemoryStore, OpenGate, Stored};
+use memory::Memory;
 use std::alloc::Global;
 use std::marker::Sync;
 use std::sync::Wait;

@@ -3,8 +3,8 @@ ghost use Rattle.std.specs.Bool.{OnTrue, OnFalse};
 ghost use Rattle.axe_io.specs.Shapes.{leaf_widths};
 ghost use Rattle.axe_io.specs.Inputs.{IsInput, IsLast, number_of, bits_of, input_at, AreCounted, CanRise, raised};
 
-use crate::memory::Memory;
 use crate::shape::Shape;
+use memory::Memory;
 use std::alloc::Global;
 use std::marker::Model;
 

@@ -6,8 +6,8 @@ ghost use Rattle.bit_blaster.specs.Gates.{HasRoom};
 ghost use Rattle.bit_blaster.specs.Ripples.{IsCell, IsRipple};
 
 use crate::gates;
-use axe_io::Memory;
 use cnf_clauses::{Formula, Lit};
+use memory::Memory;
 
 /// What the cell of one bit makes of a carry and two bits: a bit, and the carry into the next cell.
 #[derive(Clone, Copy, Debug)]

@@ -5,8 +5,9 @@ ghost use Rattle.axe_io.specs.Shapes.{leaf_widths};
 ghost use Rattle.dag.specs.Node.{node_charge};
 ghost use Rattle.bit_blaster.specs.Circuit.{AreWide, IsCircuit, units, most_units, width_in};
 
-use axe_io::{Kind, Memory, OutPlace, Shape};
+use axe_io::{Kind, OutPlace, Shape};
 use dag::{Node, NodeId, kind_charge, width_by};
+use memory::Memory;
 use std::alloc::Global;
 
 /// The most units that are made into clauses.

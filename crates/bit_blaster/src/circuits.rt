@@ -7,9 +7,9 @@ ghost use Rattle.bit_blaster.specs.NodeBits.{IsBlasted, BlastFails};
 use crate::charges::{MOST_UNITS, is_affordable};
 use crate::constants::constant;
 use crate::kinds::node_bits;
-use axe_io::Memory;
 use cnf_clauses::{Formula, Lit, Rows};
 use dag::Node;
+use memory::Memory;
 use std::alloc::{AllocError, Global};
 
 /// A circuit as a formula: a row of literals for each node, the lowest bit first.

@@ -5,8 +5,8 @@ ghost use Rattle.cnf_clauses.specs.Literal.{opposite};
 ghost use Rattle.bit_blaster.specs.Gates.{constant as constant_of};
 ghost use Rattle.bit_blaster.specs.Spelling.{IsConstant};
 
-use axe_io::Memory;
 use cnf_clauses::Lit;
+use memory::Memory;
 use std::alloc::Global;
 
 /// The literal that is always true, or always false.

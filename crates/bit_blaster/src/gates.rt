@@ -6,8 +6,8 @@ ghost use Rattle.bit_blaster.specs.Gates.{HasRoom, IsGate, constant as constant_
 
 use crate::constants::constant;
 use crate::plain;
-use axe_io::Memory;
 use cnf_clauses::{Formula, Lit};
+use memory::Memory;
 
 /// Whether `b` is `a` or its opposite, or None where it is neither.
 fn related(a: Lit, b: Lit) -> Option<bool>

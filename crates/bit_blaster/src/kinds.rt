@@ -13,9 +13,9 @@ use crate::products::times;
 use crate::shifts::shifted;
 use crate::wires::{extended, joined, part, signed_below, single};
 use crate::words;
-use axe_io::Memory;
 use cnf_clauses::{Formula, Lit, Rows};
 use dag::{Node, NodeId};
+use memory::Memory;
 use std::alloc::Global;
 
 /// The row of a child.

@@ -5,8 +5,8 @@ ghost use Rattle.cnf_clauses.specs.Literal.{value_of};
 ghost use Rattle.cnf_clauses.specs.Formula.{IsFormula};
 ghost use Rattle.bit_blaster.specs.Gates.{HasRoom, IsGate, differ as differ_of, choose as choose_of, most as most_of, odd as odd_of};
 
-use axe_io::Memory;
 use cnf_clauses::{Formula, Lit};
+use memory::Memory;
 
 /// The literal of a fresh variable.
 pub fn fresh(f: &mut Formula) -> Lit

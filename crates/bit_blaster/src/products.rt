@@ -10,8 +10,8 @@ ghost use Rattle.bit_blaster.specs.Spelling.{IsSpelled, spelled};
 use crate::cells::Cell;
 use crate::constants::constant;
 use crate::words::{chosen, repeated, rippled};
-use axe_io::Memory;
 use cnf_clauses::{Formula, Lit};
+use memory::Memory;
 use std::alloc::Global;
 
 /// The literals `k` places up, zeros below, of the same length.

@@ -11,8 +11,8 @@ use crate::constants::constant;
 use crate::gates;
 use crate::products::raised;
 use crate::words::{chosen, repeated};
-use axe_io::Memory;
 use cnf_clauses::{Formula, Lit};
+use memory::Memory;
 use std::alloc::Global;
 
 fn lowered(alloc: Global, zero: Lit, xs: &[Lit], k: usize) -> Result<Vec<Lit>, Memory>

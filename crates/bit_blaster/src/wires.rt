@@ -9,8 +9,8 @@ ghost use Rattle.bv_words.specs.Words.{slt};
 
 use crate::gates;
 use crate::words::{below, repeated};
-use axe_io::Memory;
 use cnf_clauses::{Formula, Lit};
+use memory::Memory;
 use std::alloc::Global;
 
 pub fn part(alloc: Global, xs: &[Lit], low: usize, count: usize) -> Result<Vec<Lit>, Memory>

@@ -9,8 +9,8 @@ ghost use Rattle.bit_blaster.specs.Spelling.{IsCombined, IsSpelled, IsTest, IsRo
 
 use crate::cells::{Cell, ripple};
 use crate::constants::constant;
-use axe_io::Memory;
 use cnf_clauses::{Formula, Lit};
+use memory::Memory;
 use std::alloc::Global;
 
 /// A cell of this kind for each bit.

@@ -8,9 +8,9 @@ ghost use Rattle.clause_log.specs.Missing.{first_missing};
 use crate::error::LogError;
 use crate::lines::Lines;
 use crate::resolvent::Resolvent;
-use axe_io::Memory;
 use cnf_clauses::formula::Formula;
 use cnf_clauses::lit::{ClauseId, Lit};
+use memory::Memory;
 use std::alloc::{AllocError, Global};
 use std::marker::Model;
 

@@ -16,11 +16,11 @@ use crate::restarts::Restarts;
 use crate::start::{assume_units, start_watching};
 use crate::trail::Trail;
 use crate::watch::Watches;
-use axe_io::Memory;
 use clause_log::log::Log;
 use clause_log::resolvent::Resolvent;
 use cnf_clauses::formula::Formula;
 use cnf_clauses::lit::{ClauseId, Lit};
+use memory::Memory;
 use std::alloc::{AllocError, Global};
 
 /// Searches for a model or a refutation of a formula, until it has as many lines as are granted.

@@ -3,7 +3,7 @@ ghost use Rattle.cnf_clauses.specs.Clause.{IsOver};
 
 use crate::lit::{ClauseId, Lit};
 use crate::rows::Rows;
-use axe_io::Memory;
+use memory::Memory;
 use std::alloc::Global;
 use std::marker::Model;
 

@@ -9,8 +9,8 @@ ghost use Rattle.dag_view.specs.View.{IsView, IsUnder, IsTableOf, HasDefinition,
 
 use crate::cone::{Placed, place};
 use crate::marks::marked;
-use axe_io::Memory;
 use dag::{Dag, Node, NodeId};
+use memory::Memory;
 use merge_table::MergeTable;
 use std::alloc::Global;
 use std::marker::Model;

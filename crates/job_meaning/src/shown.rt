@@ -6,9 +6,10 @@ ghost use Rattle.job_meaning.specs.Meant.{meant, IsJob};
 ghost use Rattle.job_meaning.specs.Trying.{shown_by, compared, unless_same, value_or_shown, shown_at, tried, IsFound};
 
 use crate::job::Job;
-use axe_io::{Budget, Input, Memory, inputs_are_counted};
+use axe_io::{Budget, Input, inputs_are_counted};
 use class_reader::MethodId;
 use jvm_meaning::{End, Machine, Reason, Seen};
+use memory::Memory;
 use spec_meaning::{SpecEnd, Value, Why, args_of, eval};
 use std::alloc::Global;
 

@@ -9,8 +9,9 @@ use crate::heap::Heap;
 use crate::state::{Limits, State, Waiting};
 use crate::step::step;
 use crate::value::{End, Value};
-use axe_io::{Input, Memory, Shape};
+use axe_io::{Input, Shape};
 use class_reader::{ClassFile, MethodId};
+use memory::Memory;
 use sqlite_items::Items;
 use std::alloc::{AllocError, Global};
 

@@ -6,7 +6,7 @@ ghost use Rattle.dag.specs.Graph.{Graph};
 ghost use Rattle.merge_table.specs.Table.{renamed, replaced, count};
 ghost use Rattle.merge_table.specs.KeepsValues.{AlwaysEqual, KeepsValues};
 
-use axe_io::Memory;
+use memory::Memory;
 use std::alloc::{AllocError, Global};
 use std::marker::Model;
 

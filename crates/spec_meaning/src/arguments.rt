@@ -2,7 +2,8 @@ ghost use Rattle.std.specs.Prelude.{◌≡◌, ◌≤◌, ◌<◌, ℕ, IfOk, le
 ghost use Rattle.spec_meaning.specs.Arguments.{argument, spec_arguments};
 
 use crate::value::Value;
-use axe_io::{Input, Memory, Param, Shape};
+use axe_io::{Input, Param, Shape};
+use memory::Memory;
 use sqlite_items::Items;
 use std::alloc::{AllocError, Global};
 

@@ -17,7 +17,7 @@ use crate::stack::Stack;
 use crate::stop::Stop;
 use crate::table::apply;
 use crate::value::{SpecEnd, Value, Why};
-use axe_io::Memory;
+use memory::Memory;
 use spec_reader::{Builtin, ConstId, Form, FormKind, FunId, Program};
 use std::alloc::Global;
 

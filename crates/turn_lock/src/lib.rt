@@ -26,9 +26,9 @@ mod pass;
 mod rule;
 mod view;
 
-pub use axe_io::Memory;
 pub use kept::Kept;
 pub use lock::TurnLock;
+pub use memory::Memory;
 pub use pass::{Held, Pass};
 
 #[cfg(test)]

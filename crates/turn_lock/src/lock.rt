@@ -9,8 +9,8 @@ use crate::rule::{
     About, AtCut, Draw, Look, NEXT, NoteCut, SERVED, ServeNext, TurnSeat, TurnTable, Union, VALUE,
 };
 use atomic_table::{Refused, Table};
-use axe_io::Memory;
 use crossbeam_utils::Backoff;
+use memory::Memory;
 use std::alloc::Global;
 use std::marker::Model;
 use std::snapshot::Snapshot;

@@ -7,8 +7,9 @@ use crate::causes::{
 use crate::inputs::input_text;
 use crate::results::{end_text, place_text, value_text};
 use crate::verdict::{Refusal, Verdict};
-use axe_io::{Budget, Input, Memory, Shape, Spent};
+use axe_io::{Budget, Input, Shape, Spent};
 use class_reader::ClassFile;
+use memory::Memory;
 use std::alloc::{AllocError, Global};
 
 /// The text of a verdict. The shape is needed where it prints an input, the class where it prints a method.

@@ -7,11 +7,11 @@ ghost use Rattle.bit_blaster.specs.NodeBits.{BlastFails};
 ghost use Rattle.dag_view.specs.View.{IsView};
 ghost use Rattle.view_proof.specs.Question.{Asks, having, question_nodes};
 
-use axe_io::Memory;
 use bit_blaster::{BlastError, Blasted, blast};
 use cnf_clauses::{Formula, Lit, Rows};
 use dag::{Node, NodeId};
 use dag_view::View;
+use memory::Memory;
 use std::alloc::Global;
 
 /// A circuit's formula with one clause more, which says what a bit of it is.

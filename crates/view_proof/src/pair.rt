@@ -10,11 +10,12 @@ ghost use Rattle.view_proof.specs.Answer.{IsPairEnd, IsTooMany, HoldsInGraphs};
 
 use crate::answer::{Answer, answer_of};
 use crate::ask::question_of;
-use axe_io::{Input, Memory};
+use axe_io::Input;
 use bit_blaster::BlastError;
 use clause_log::Log;
 use dag::{Dag, NodeId};
 use dag_view::{Misfit, View};
+use memory::Memory;
 use merge_table::MergeTable;
 use std::alloc::Global;
 use std::marker::Model;

@@ -1,7 +1,7 @@
 //! The walk over forms: limits, scopes, and what is visited.
 
 use crate::{SpecEnd, Value, eval};
-use axe_io::Memory;
+use memory::Memory;
 use spec_reader::{Builtin, Form, FormKind, FunId, Function, NamedConstant, Program};
 use sqlite_items::Items;
 use std::alloc::{AllocError, Global};

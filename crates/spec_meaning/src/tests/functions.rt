@@ -3,7 +3,7 @@
 ghost use Rattle.std.specs.Prelude.{◌≤◌, length};
 
 use crate::{SpecEnd, Value, Why, eval};
-use axe_io::Memory;
+use memory::Memory;
 use spec_reader::{FunId, SpecError, read_spec};
 use sqlite_items::Items;
 use std::alloc::{AllocError, Global};

@@ -1,0 +1,26 @@
+//! Want of memory, which any call that allocates may answer.
+#![tactic(auto)]
+
+ghost use Rattle.std.specs.Prelude.{⊤};
+
+use std::alloc::{AllocError, AllocFailed};
+
+/// Want of memory, the one refusal that any call which allocates may give.
+#[derive(Clone, Copy, Debug, PartialEq, Eq)]
+pub struct Memory;
+
+impl From<AllocError> for Memory {
+    ghost from_gives = { λ _ _. ⊤ };
+
+    fn from(_error: AllocError) -> Memory {
+        Memory
+    }
+}
+
+impl<T: Drop> From<AllocFailed<T>> for Memory {
+    ghost from_gives = { λ _ _. ⊤ };
+
+    fn from(_error: AllocFailed<T>) -> Memory {
+        Memory
+    }
+}
