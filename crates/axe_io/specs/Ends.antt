@@ -50,3 +50,8 @@ written_by (Err (ends.TookNothing n)) bytes = take n bytes
 abbrev pub written_count : WriteEnd → ℕ
 written_count (ends.Failed n) = n
 written_count (ends.TookNothing n) = n
+
+-- when not all of a text was written: before and now are the sink's counts of refused writes
+abbrev pub HasWriteCause : ℕ → ℕ → WriteEnd → Type 0
+HasWriteCause before now (ends.Failed n) = Rose before now
+HasWriteCause before now (ends.TookNothing n) = now ≡ before

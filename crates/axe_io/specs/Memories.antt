@@ -1,8 +1,12 @@
 -- What stores and sinks in memory are made of.
-use Rattle.std.specs.Prelude.{ℕ, List}
+use Rattle.std.specs.Prelude.{ℕ, ◌+◌, ◌-◌, ◌^◌, min, List}
 use Rattle.axe_io.specs.declared.store.MemoryStore.{MemoryStore}
 use Rattle.axe_io.specs.declared.store.Stored.{Stored}
 use Rattle.axe_io.specs.declared.sink.MemorySink.{MemorySink}
+
+-- a count after one more, at most its type's end
+abbrev pub one_more : ℕ → ℕ
+one_more n = min (n + 1) (2 ^ 64 - 1)
 
 -- the entries of a store
 abbrev pub store_contents : MemoryStore → List Stored
@@ -39,3 +43,7 @@ sink_calls s = s.calls
 -- how many of them failed
 abbrev pub sink_faults : MemorySink → ℕ
 sink_faults s = s.faults
+
+-- how many writes answered that they failed
+abbrev pub sink_refusals : MemorySink → ℕ
+sink_refusals s = s.refusals

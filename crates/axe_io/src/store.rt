@@ -1,6 +1,8 @@
-ghost use Rattle.std.specs.Prelude.{◌≡◌, ℕ, ◌≤◌, ◌<◌, List, Option, Some, None, option_map, IfOk, MatchResult, vec_len};
+ghost use Rattle.std.specs.Prelude.{◌≡◌, ℕ, ◌≤◌, ◌<◌, List, Option, Some, None, option_map, IfOk, MatchResult, vec_len, Err, Contains};
 ghost use Rattle.axe_io.specs.Ends.{Told, IsContent, HasReadCause};
 ghost use Rattle.axe_io.specs.Contents.{content_of};
+ghost use Rattle.axe_io.specs.Memories.{one_more, store_calls, store_failing, store_faults};
+ghost use Rattle.axe_io.specs.declared.store.StoreError.TheVariants.{Failed};
 
 use std::alloc::Global;
 
@@ -93,7 +95,21 @@ impl Store for MemoryStore {
 
     ghost faults = { λ s. s.faults };
 
-    fn read(&mut self, alloc: Global, name: &str, limit: usize) -> Result<Vec<u8>, StoreError> {
+    /// Reads what stands under a name. A call with a number in `failing` is Failed, which alone is counted as a fault;
+    /// any other gives the bytes of the first entry with the name, and is Failed where there is none.
+    fn read(&mut self, alloc: Global, name: &str, limit: usize) -> Result<Vec<u8>, StoreError>
+        ensures within { IfOk result (λ bytes. vec_len bytes ≤ limit) }
+        ensures content { IfOk result (λ bytes. content_of self.old.contents.items name.now ≡ Some bytes.items) }
+        ensures cause { MatchResult result
+            (λ _. self.new.faults ≡ self.old.faults)
+            (HasReadCause (Some (content_of self.old.contents.items name.now)) limit self.old.faults self.new.faults) }
+        ensures kept { (other : List ℕ) → Some (content_of self.new.contents.items other) ≡ Some (content_of self.old.contents.items other) }
+        ensures counts { self.old.faults ≤ self.new.faults }
+        ensures calls { store_calls self.new ≡ one_more (store_calls self.old) }
+        ensures failing { store_failing self.new ≡ store_failing self.old }
+        ensures planned { Contains (store_failing self.old) (store_calls self.new) → (result ≡ Err Failed) × (store_faults self.new ≡ one_more (store_faults self.old)) }
+        ensures others { (Contains (store_failing self.old) (store_calls self.new) → ⊥) → store_faults self.new ≡ store_faults self.old }
+    {
         self.calls = self.calls.saturating_add(1);
         if self.failing.contains(&self.calls) {
             self.faults = self.faults.saturating_add(1);
