@@ -110,7 +110,7 @@ far_sum zero m x y p h = absurd (omega arith)
 far_sum (suc k) m x y p h = let e : x + (suc k * m - y) ≡ k * m + (x + (m - y)) = omega arith in rw e (mul-add-mod_self_right k m (x + (m - y)))
 
 -- a difference of words, taken modulo 2 ^ w
-less_word : (w x y : ℕ) → x < 2 ^ w → y < 2 ^ w → (x + (2 ^ w - y)) % 2 ^ w ≡ unsigned_abs (int_rem_euclid (pos x -ℤ pos y) (pos (2 ^ w)))
+pub less_word : (w x y : ℕ) → x < 2 ^ w → y < 2 ^ w → (x + (2 ^ w - y)) % 2 ^ w ≡ unsigned_abs (int_rem_euclid (pos x -ℤ pos y) (pos (2 ^ w)))
 less_word w x y p q = ap unsigned_abs (sym (int_rem_euclid_is (pos x -ℤ pos y) (pos (2 ^ w)) (2 ^ w) 1 (x + (2 ^ w - y)) (pow_pos w) refl (omega (arith, ints, q))))
 
 -- a difference modulo 2 ^ 64 and one modulo 2 ^ w are apart by a multiple of 2 ^ w

@@ -1,3 +1,8 @@
 pub mod Bounds
 pub mod CodeLemmas
+pub mod DivisionLaws
 pub mod Laws
+pub mod PartLaws
+pub mod ShiftLaws
+pub mod WidthLaws
+pub mod WordLaws

@@ -1,5 +1,5 @@
 -- Words of 1 to 64 bits, as whole numbers below 2 ^ width. Each function of the crate is its line here.
-use Rattle.std.specs.Prelude.{ℕ, ◌+◌, ◌-◌, ◌*◌, ◌/◌, ◌%◌, ◌^◌, ℤ, pos, ◌-ℤ◌, neg_ℤ, Bool, true, false, cond, nat_lt, int_lt, unsigned_abs, bit_xor}
+use Rattle.std.specs.Prelude.{ℕ, ◌+◌, ◌-◌, ◌*◌, ◌/◌, ◌%◌, ◌^◌, ℤ, pos, ◌-ℤ◌, neg_ℤ, Bool, true, false, cond, nat_lt, int_lt, int_div, int_rem, unsigned_abs, nat_eq, bit_xor}
 use Rattle.std.specs.Int.{int_rem_euclid}
 
 -- the lowest bits of a number: x mod 2 ^ width
@@ -45,6 +45,26 @@ minus width x y = chop_wide width (pos x -ℤ pos y)
 -- the product modulo 2 ^ width
 unfoldable pub times : ℕ → ℕ → ℕ → ℕ
 times width x y = chop width (x * y)
+
+-- the quotient of plain numbers, rounded down: 0 where the divisor is 0
+unfoldable pub udiv : ℕ → ℕ → ℕ
+udiv x y = cond (nat_eq y 0) 0 (x / y)
+
+-- the remainder of plain numbers: x where the divisor is 0
+unfoldable pub urem : ℕ → ℕ → ℕ
+urem x y = cond (nat_eq y 0) x (x % y)
+
+-- the absolute value of the signed number
+unfoldable pub magnitude : ℕ → ℕ → ℕ
+magnitude width x = unsigned_abs (signed width x)
+
+-- the quotient of signed numbers, cut towards zero, modulo 2 ^ width: 0 where the divisor is 0
+unfoldable pub sdiv : ℕ → ℕ → ℕ → ℕ
+sdiv width x y = chop_wide width (cond (nat_eq y 0) (pos 0) (int_div (signed width x) (signed width y)))
+
+-- what is left of x by that quotient, with the sign of x: x where the divisor is 0
+unfoldable pub srem : ℕ → ℕ → ℕ → ℕ
+srem width x y = chop_wide width (cond (nat_eq y 0) (signed width x) (int_rem (signed width x) (signed width y)))
 
 -- less, as signed numbers
 unfoldable pub slt : ℕ → ℕ → ℕ → Bool
