@@ -1,9 +1,9 @@
 -- The reader of a class file is the class grammar.
 use Rattle.std.proofs.Common.{◌≡◌, ℕ, ◌-◌, List, length, Some, None, ◌⊎◌, Result, Ok, Err, IfOk, IfErr, MatchResult, inl, inr, refl, sym, subst, ◌∙◌, ◌<◌, ◌++◌, ap, arith, length-append}
-use Rattle.class_reader.specs.declared.error.ClassError.{ClassError}
-use Rattle.class_reader.specs.declared.error.ClassError.TheVariants.{Memory, Truncated, BadMagic, BadVersion, BadIndex, BadLength, Trailing}
-use Rattle.class_reader.specs.Contents.{Contents}
-use Rattle.class_reader.specs.Pools.{Pool}
+use Rattle.class_file.specs.declared.error.ClassError.{ClassError}
+use Rattle.class_file.specs.declared.error.ClassError.TheVariants.{Memory, Truncated, BadMagic, BadVersion, BadIndex, BadLength, Trailing}
+use Rattle.class_file.specs.Contents.{Contents}
+use Rattle.class_file.specs.Pools.{Pool}
 use Rattle.class_reader.specs.ClassReaders.{head_at, class_index_at, super_index_at, interface_turn, interfaces_at, this_class_at, members_at, class_at, class_of, fault_in, first_class_fault}
 use Rattle.class_reader.specs.ClassTexts.{head_text, class_index_text, super_index_text, interface_turn_text, interfaces_text, this_class_text, members_text, class_text, SpellsClass}
 use Rattle.class_reader.proofs.ConstantLaws.{number_reads, pool_reads}

@@ -1,11 +1,11 @@
 -- The reader of the constant pool reads what spells one.
 use Rattle.std.proofs.Common.{◌≡◌, ℕ, ◌-◌, eqb, ◌&&◌, Bool, true, false, List, [], ◌∷◌, drop, length, Option, Some, None, Result, Ok, Err, is_ok, refl, ◌∙◌}
-use Rattle.class_reader.specs.declared.error.ClassError.{ClassError}
-use Rattle.class_reader.specs.declared.error.ClassError.TheVariants.{Truncated, BadTag, BadLength}
-use Rattle.class_reader.specs.declared.class.Constant.{Constant}
-use Rattle.class_reader.specs.declared.class.Constant.TheVariants.{Utf8, Integer, Float, Long, Double, Class, Str, Fieldref, Methodref, InterfaceMethodref, NameAndType, MethodHandle, MethodType, InvokeDynamic}
+use Rattle.class_file.specs.declared.error.ClassError.{ClassError}
+use Rattle.class_file.specs.declared.error.ClassError.TheVariants.{Truncated, BadTag, BadLength}
+use Rattle.class_file.specs.declared.class.Constant.{Constant}
+use Rattle.class_file.specs.declared.class.Constant.TheVariants.{Utf8, Integer, Float, Long, Double, Class, Str, Fieldref, Methodref, InterfaceMethodref, NameAndType, MethodHandle, MethodType, InvokeDynamic}
 use Rattle.class_reader.specs.Numbers.{number, number_text}
-use Rattle.class_reader.specs.Pools.{Pool}
+use Rattle.class_file.specs.Pools.{Pool}
 use Rattle.class_reader.specs.References.{entry_refers, slot_refers, all_refer, then_check, entry_references, slot_references, references, slot_size}
 use Rattle.class_reader.specs.ConstantReaders.{utf8_at, word_at, wide_bits_at, wide_at, index_at, two_at, pair_at, handle_at, content_at, constant_at, slot_at, slot_turn, slots_at, pool_at}
 use Rattle.class_reader.specs.ConstantTexts.{utf8_text, word_text, wide_bits_text, wide_text, index_text, two_text, pair_text, handle_text, content_text, constant_text, slot_text, slot_turn_text, slots_text, pool_text}

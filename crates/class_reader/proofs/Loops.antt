@@ -1,10 +1,10 @@
 -- The loops of the readers, by what one turn of each gives.
 use Rattle.std.proofs.Common.{◌≡◌, ℕ, ◌-◌, ◌+◌, ◌≤◌, ◌<◌, Bool, false, List, [], ◌∷◌, ◌++◌, length, get_or, drop, Option, Result, Ok, Err, refl, sym, ◌∙◌, add-one, drop-cons}
 use Rattle.std.proofs.Math.ListN.{drop_of_length-le}
-use Rattle.class_reader.specs.declared.error.ClassError.{ClassError}
-use Rattle.class_reader.specs.declared.error.ClassError.TheVariants.{Memory}
-use Rattle.class_reader.specs.declared.class.Constant.{Constant}
-use Rattle.class_reader.specs.Pools.{Pool}
+use Rattle.class_file.specs.declared.error.ClassError.{ClassError}
+use Rattle.class_file.specs.declared.error.ClassError.TheVariants.{Memory}
+use Rattle.class_file.specs.declared.class.Constant.{Constant}
+use Rattle.class_file.specs.Pools.{Pool}
 use Rattle.class_reader.specs.References.{then_check, slot_references, references, slot_size}
 use Rattle.class_reader.specs.ConstantReaders.{slot_at, slot_turn, slots_at, takes_two}
 use Rattle.class_reader.specs.ClassReaders.{class_index_at, interface_turn}

@@ -1,9 +1,9 @@
 -- The readers of fields, methods and attributes read what spells them.
 use Rattle.std.proofs.Common.{ℕ, ◌&&◌, List, Option, None, is_none, codes}
 use Rattle.std.specs.Str.{bytes_eq}
-use Rattle.class_reader.specs.declared.error.ClassError.TheVariants.{Truncated, BadIndex, BadLength}
-use Rattle.class_reader.specs.declared.class.Code.{Code}
-use Rattle.class_reader.specs.Pools.{Pool, text_of}
+use Rattle.class_file.specs.declared.error.ClassError.TheVariants.{Truncated, BadIndex, BadLength}
+use Rattle.class_file.specs.declared.class.Code.{Code}
+use Rattle.class_file.specs.Pools.{Pool, text_of}
 use Rattle.class_reader.specs.MemberReaders.{name_at, skip_at, attribute_at, attribute_turn, attributes_at, row_at, rows_at, instructions_at, code_content_at, code_at, method_content_at, method_attribute_at, method_attributes_at, method_at, methods_at, value_index_at, value_at, field_content_at, field_attribute_at, field_attributes_at, field_at, fields_at}
 use Rattle.class_reader.specs.MemberTexts.{name_text, skip_text, attribute_text, attribute_turn_text, attributes_text, row_text, rows_text, instructions_text, code_content_text, code_text, method_content_text, method_attribute_text, method_attributes_text, method_text, methods_text, value_index_text, value_text, field_content_text, field_attribute_text, field_attributes_text, field_text, fields_text}
 use Rattle.class_reader.proofs.ConstantLaws.{number_reads}

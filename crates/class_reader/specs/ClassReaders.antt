@@ -1,32 +1,32 @@
 -- Reading a class file from left to right, with the first fault that is met (4.1).
 use Rattle.std.specs.Prelude.{ℕ, ◌-◌, ◌==◌, ◌&&◌, ◌||◌, nat_lt, nat_le, List, length, Option, Some, None, Result, Ok, Err}
-use Rattle.class_reader.specs.declared.error.ClassError.{ClassError}
-use Rattle.class_reader.specs.declared.error.ClassError.TheVariants.{BadMagic, BadVersion, BadIndex, BadLength, Trailing}
-use Rattle.class_reader.specs.declared.class.Field.{Field}
-use Rattle.class_reader.specs.declared.class.Method.{Method}
-use Rattle.class_reader.specs.Contents.{Contents}
+use Rattle.class_file.specs.declared.error.ClassError.{ClassError}
+use Rattle.class_file.specs.declared.error.ClassError.TheVariants.{BadMagic, BadVersion, BadIndex, BadLength, Trailing}
+use Rattle.class_file.specs.declared.class.Field.{Field}
+use Rattle.class_file.specs.declared.class.Method.{Method}
+use Rattle.class_file.specs.Contents.{Contents, contents}
 use Rattle.class_reader.specs.Numbers.{u2, u4}
-use Rattle.class_reader.specs.Pools.{Pool, is_class}
+use Rattle.class_file.specs.Pools.{Pool, is_class}
 use Rattle.class_reader.specs.ConstantReaders.{pool_at}
 use Rattle.class_reader.specs.MemberReaders.{fields_at, methods_at, attributes_at}
-use Rattle.reading.specs.Readers.{Reader, ◌>>=◌, done, test, located, turns, whole}
+use Rattle.reading.specs.Readers.{Reader, ◌>>=◌, done, requires_that, located, turns, whole}
 
 -- what stands before the pool, and the pool's count
 unfoldable pub head_at : ℕ → Reader ClassError ℕ
 head_at end = do
   magic ← u4 end
-  is_class_file ← test (magic == 3405691582) BadMagic
+  is_class_file ← requires_that (magic == 3405691582) BadMagic
   minor ← u2 end
   major ← u2 end
-  is_known ← test (nat_le 45 major && nat_le major 52) (BadVersion major)
+  is_known ← requires_that (nat_le 45 major && nat_le major 52) (BadVersion major)
   count ← u2 end
-  has_zero ← test (nat_lt 0 count) (BadLength 8)
+  has_zero ← requires_that (nat_lt 0 count) (BadLength 8)
   done count
 
 abbrev pub class_index_from : Pool → ℕ → ℕ → Reader ClassError ℕ
 class_index_from pool end at = do
   index ← u2 end
-  is ← test (is_class pool index) (BadIndex at index)
+  is ← requires_that (is_class pool index) (BadIndex at index)
   done index
 
 -- the number of a Class
@@ -36,7 +36,7 @@ class_index_at pool end = located end (class_index_from pool end)
 abbrev pub super_index_from : Pool → ℕ → ℕ → Reader ClassError ℕ
 super_index_from pool end at = do
   index ← u2 end
-  is ← test (index == 0 || is_class pool index) (BadIndex at index)
+  is ← requires_that (index == 0 || is_class pool index) (BadIndex at index)
   done index
 
 -- the number of a Class, or 0
@@ -67,15 +67,12 @@ members_at pool end = do
   skipped ← attributes_at pool end
   done (this_class, fields, methods)
 
-abbrev pub contents : Pool → ℕ × List Field × List Method → Contents
-contents pool members = record { pool = pool; this_class = members.0; fields = members.1; methods = members.2 }
-
 unfoldable pub class_at : ℕ → Reader ClassError Contents
 class_at end = do
   count ← head_at end
   pool ← pool_at end count
   members ← members_at pool end
-  done (contents pool members)
+  done (contents pool members.0 members.1 members.2)
 
 -- the class that a file spells, or the first fault of the file
 unfoldable pub class_of : List ℕ → Result Contents ClassError

@@ -1,13 +1,12 @@
 -- How a class file is spelled: its parts, one after another (4.1).
 use Rattle.std.specs.Prelude.{ℕ, ◌==◌, ◌&&◌, ◌||◌, nat_lt, nat_le, List}
-use Rattle.class_reader.specs.declared.class.Field.{Field}
-use Rattle.class_reader.specs.declared.class.Method.{Method}
-use Rattle.class_reader.specs.Contents.{Contents}
+use Rattle.class_file.specs.declared.class.Field.{Field}
+use Rattle.class_file.specs.declared.class.Method.{Method}
+use Rattle.class_file.specs.Contents.{Contents, contents}
 use Rattle.class_reader.specs.Numbers.{u2_text, u4_text}
-use Rattle.class_reader.specs.Pools.{Pool, is_class}
+use Rattle.class_file.specs.Pools.{Pool, is_class}
 use Rattle.class_reader.specs.ConstantTexts.{pool_text}
 use Rattle.class_reader.specs.MemberTexts.{fields_text, methods_text, attributes_text}
-use Rattle.class_reader.specs.ClassReaders.{contents}
 use Rattle.reading.specs.Grammars.{Grammar, ◌>>=◌, done, test, turns}
 
 -- the magic number, a version from 45 to 52, and the pool's count, which isn't 0
@@ -65,7 +64,7 @@ class_text = do
   count ← head_text
   pool ← pool_text count
   members ← members_text pool
-  done (contents pool members)
+  done (contents pool members.0 members.1 members.2)
 
 -- the bytes are a class file, and this is what it holds
 abbrev pub SpellsClass : List ℕ → Contents → Type 0

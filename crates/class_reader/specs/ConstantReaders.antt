@@ -1,14 +1,14 @@
 -- Reading the constant pool (4.4).
 use Rattle.std.specs.Prelude.{ℕ, ◌-◌, ◌==◌, nat_lt, if◌then◌else◌, Bool, true, false, [], ◌∷◌, ◌++◌, Option, Some, None}
 use Rattle.std.specs.Int.{w32, w64, cast_signed}
-use Rattle.class_reader.specs.declared.error.ClassError.{ClassError}
-use Rattle.class_reader.specs.declared.error.ClassError.TheVariants.{Truncated, BadTag, BadLength}
-use Rattle.class_reader.specs.declared.class.Constant.{Constant}
-use Rattle.class_reader.specs.declared.class.Constant.TheVariants.{Utf8, Integer, Float, Long, Double, Class, Str, Fieldref, Methodref, InterfaceMethodref, NameAndType, MethodHandle, MethodType, InvokeDynamic}
+use Rattle.class_file.specs.declared.error.ClassError.{ClassError}
+use Rattle.class_file.specs.declared.error.ClassError.TheVariants.{Truncated, BadTag, BadLength}
+use Rattle.class_file.specs.declared.class.Constant.{Constant}
+use Rattle.class_file.specs.declared.class.Constant.TheVariants.{Utf8, Integer, Float, Long, Double, Class, Str, Fieldref, Methodref, InterfaceMethodref, NameAndType, MethodHandle, MethodType, InvokeDynamic}
 use Rattle.class_reader.specs.Numbers.{u1, u2, u4, u8}
-use Rattle.class_reader.specs.Pools.{Pool}
+use Rattle.class_file.specs.Pools.{Pool}
 use Rattle.class_reader.specs.References.{references}
-use Rattle.reading.specs.Readers.{Reader, ◌>>=◌, done, fail, test, bytes, located, checked, turns}
+use Rattle.reading.specs.Readers.{Reader, ◌>>=◌, done, fail, requires_that, bytes, located, checked, turns}
 
 unfoldable pub utf8_at : ℕ → Reader ClassError Constant
 utf8_at end = do
@@ -22,7 +22,7 @@ word_at kind end = u4 end >>= λ bits. done (kind bits)
 -- one that takes two numbers, where so many are left behind its first
 unfoldable pub wide_bits_at : ℕ → ℕ → ℕ → Reader ClassError ℕ
 wide_bits_at end left at = do
-  has_second ← test (nat_lt 0 left) (BadLength at)
+  has_second ← requires_that (nat_lt 0 left) (BadLength at)
   u8 end
 
 unfoldable pub wide_at : (ℕ → Constant) → ℕ → ℕ → ℕ → Reader ClassError Constant

@@ -1,10 +1,10 @@
 -- How the constant pool is spelled (4.4).
 use Rattle.std.specs.Prelude.{ℕ, ◌-◌, ◌==◌, nat_lt, Bool, false, [], ◌∷◌, ◌++◌, Option, Some, None}
 use Rattle.std.specs.Int.{w32, w64, cast_signed}
-use Rattle.class_reader.specs.declared.class.Constant.{Constant}
-use Rattle.class_reader.specs.declared.class.Constant.TheVariants.{Utf8, Integer, Float, Long, Double, Class, Str, Fieldref, Methodref, InterfaceMethodref, NameAndType, MethodHandle, MethodType, InvokeDynamic}
+use Rattle.class_file.specs.declared.class.Constant.{Constant}
+use Rattle.class_file.specs.declared.class.Constant.TheVariants.{Utf8, Integer, Float, Long, Double, Class, Str, Fieldref, Methodref, InterfaceMethodref, NameAndType, MethodHandle, MethodType, InvokeDynamic}
 use Rattle.class_reader.specs.Numbers.{u2_text, u4_text, u8_text}
-use Rattle.class_reader.specs.Pools.{Pool}
+use Rattle.class_file.specs.Pools.{Pool}
 use Rattle.class_reader.specs.References.{all_refer}
 use Rattle.class_reader.specs.ConstantReaders.{takes_two}
 use Rattle.reading.specs.Grammars.{Grammar, ◌>>=◌, done, nothing, test, byte, bytes, either, such_that, turns}

@@ -1,6 +1,3 @@
-pub mod Contents
-pub mod Members
-pub mod Pools
 pub mod References
 pub mod Numbers
 pub mod ConstantReaders

@@ -1,15 +1,15 @@
 -- Reading fields, methods and their attributes (4.5, 4.6, 4.7).
 use Rattle.std.specs.Prelude.{ℕ, ◌==◌, ◌&&◌, nat_lt, if◌then◌else◌, List, Option, Some, None, is_none, codes}
 use Rattle.std.specs.Str.{bytes_eq}
-use Rattle.class_reader.specs.declared.error.ClassError.{ClassError}
-use Rattle.class_reader.specs.declared.error.ClassError.TheVariants.{Truncated, BadIndex, BadLength}
-use Rattle.class_reader.specs.declared.class.ExceptionRow.{ExceptionRow}
-use Rattle.class_reader.specs.declared.class.Code.{Code}
-use Rattle.class_reader.specs.declared.class.Method.{Method}
-use Rattle.class_reader.specs.declared.class.Field.{Field}
+use Rattle.class_file.specs.declared.error.ClassError.{ClassError}
+use Rattle.class_file.specs.declared.error.ClassError.TheVariants.{Truncated, BadIndex, BadLength}
+use Rattle.class_file.specs.declared.class.ExceptionRow.{ExceptionRow}
+use Rattle.class_file.specs.declared.class.Code.{Code}
+use Rattle.class_file.specs.declared.class.Method.{Method}
+use Rattle.class_file.specs.declared.class.Field.{Field}
 use Rattle.class_reader.specs.Numbers.{u2, u4}
-use Rattle.class_reader.specs.Pools.{Pool, text_of, is_value}
-use Rattle.reading.specs.Readers.{Reader, ◌>>=◌, done, test, found, bytes, located, exactly, turns, times}
+use Rattle.class_file.specs.Pools.{Pool, text_of, is_value}
+use Rattle.reading.specs.Readers.{Reader, ◌>>=◌, done, requires_that, found, bytes, located, exactly, turns, times}
 
 abbrev pub name_from : Pool → ℕ → ℕ → Reader ClassError (List ℕ)
 name_from pool end at = u2 end >>= λ index. found (text_of pool index) (BadIndex at index)
@@ -55,7 +55,7 @@ rows_at end = u2 end >>= λ count. times count (row_at end)
 unfoldable pub instructions_at : ℕ → ℕ → Reader ClassError (List ℕ)
 instructions_at end at = do
   len ← u4 end
-  in_range ← test (nat_lt 0 len && nat_lt len 65536) (BadLength at)
+  in_range ← requires_that (nat_lt 0 len && nat_lt len 65536) (BadLength at)
   bytes len (Truncated end)
 
 -- what a Code holds
@@ -103,7 +103,7 @@ methods_at pool end = u2 end >>= λ count. times count (method_at pool end)
 abbrev pub value_index_from : Pool → ℕ → ℕ → Reader ClassError ℕ
 value_index_from pool end at = do
   index ← u2 end
-  is ← test (is_value pool index) (BadIndex at index)
+  is ← requires_that (is_value pool index) (BadIndex at index)
   done index
 
 -- the number of a value
@@ -114,7 +114,7 @@ value_index_at pool end = located end (value_index_from pool end)
 abbrev pub value_from : Pool → ℕ → ℕ → Reader ClassError ℕ
 value_from pool end at = do
   len ← u4 end
-  is_two ← test (len == 2) (BadLength at)
+  is_two ← requires_that (len == 2) (BadLength at)
   value_index_at pool end
 
 unfoldable pub value_at : Pool → ℕ → Reader ClassError ℕ

@@ -1,12 +1,12 @@
 -- How fields, methods and their attributes are spelled (4.5, 4.6, 4.7).
 use Rattle.std.specs.Prelude.{ℕ, ◌==◌, ◌&&◌, nat_lt, List, Option, Some, None, is_none, codes}
 use Rattle.std.specs.Str.{bytes_eq}
-use Rattle.class_reader.specs.declared.class.ExceptionRow.{ExceptionRow}
-use Rattle.class_reader.specs.declared.class.Code.{Code}
-use Rattle.class_reader.specs.declared.class.Method.{Method}
-use Rattle.class_reader.specs.declared.class.Field.{Field}
+use Rattle.class_file.specs.declared.class.ExceptionRow.{ExceptionRow}
+use Rattle.class_file.specs.declared.class.Code.{Code}
+use Rattle.class_file.specs.declared.class.Method.{Method}
+use Rattle.class_file.specs.declared.class.Field.{Field}
 use Rattle.class_reader.specs.Numbers.{u2_text, u4_text}
-use Rattle.class_reader.specs.Pools.{Pool, text_of, is_value}
+use Rattle.class_file.specs.Pools.{Pool, text_of, is_value}
 use Rattle.reading.specs.Grammars.{Grammar, ◌>>=◌, done, test, found, bytes, exactly, either, turns, times}
 
 -- the number of a Utf8

@@ -1,8 +1,8 @@
 -- Unsigned numbers of a class file, their highest byte first (4).
 use Rattle.std.specs.Prelude.{ℕ}
 use Rattle.byteorder.specs.Endian.{big_number}
-use Rattle.class_reader.specs.declared.error.ClassError.{ClassError}
-use Rattle.class_reader.specs.declared.error.ClassError.TheVariants.{Truncated}
+use Rattle.class_file.specs.declared.error.ClassError.{ClassError}
+use Rattle.class_file.specs.declared.error.ClassError.TheVariants.{Truncated}
 use Rattle.reading.specs.Readers.{Reader, ◌>>=◌, done, byte, bytes}
 use Rattle.reading.specs.Grammars as grammar
 use Rattle.reading.specs.Grammars.{Grammar}

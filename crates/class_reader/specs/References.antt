@@ -1,10 +1,10 @@
 -- What the entries of the constant pool refer to, checked when all of the pool is read (4.4).
 use Rattle.std.specs.Prelude.{ℕ, ◌+◌, ◌-◌, ◌&&◌, Bool, true, List, [], ◌∷◌, length, drop, Option, Some, None, Result, Ok, Err}
-use Rattle.class_reader.specs.declared.error.ClassError.{ClassError}
-use Rattle.class_reader.specs.declared.error.ClassError.TheVariants.{BadIndex}
-use Rattle.class_reader.specs.declared.class.Constant.{Constant}
-use Rattle.class_reader.specs.declared.class.Constant.TheVariants.{Utf8, Integer, Float, Long, Double, Class, Str, Fieldref, Methodref, InterfaceMethodref, NameAndType, MethodHandle, MethodType, InvokeDynamic}
-use Rattle.class_reader.specs.Pools.{Pool, is_utf8, is_class, is_name_and_type}
+use Rattle.class_file.specs.declared.error.ClassError.{ClassError}
+use Rattle.class_file.specs.declared.error.ClassError.TheVariants.{BadIndex}
+use Rattle.class_file.specs.declared.class.Constant.{Constant}
+use Rattle.class_file.specs.declared.class.Constant.TheVariants.{Utf8, Integer, Float, Long, Double, Class, Str, Fieldref, Methodref, InterfaceMethodref, NameAndType, MethodHandle, MethodType, InvokeDynamic}
+use Rattle.class_file.specs.Pools.{Pool, is_utf8, is_class, is_name_and_type}
 use Rattle.reading.specs.Readers.{check}
 
 -- whether each number of an entry is that of an entry of the kind that it has to be

@@ -1,16 +1,13 @@
 //! Attributes that aren't read, and names (4.7).
 
 ghost use Rattle.std.specs.Prelude.{◌≡◌, ◌-◌};
-ghost use Rattle.class_reader.specs.declared.error.ClassError.TheVariants.{Memory};
+ghost use Rattle.class_file.specs.declared.error.ClassError.TheVariants.{Memory};
 ghost use Rattle.class_reader.specs.MemberReaders.{name_at, skip_at, attribute_at, attribute_turn, attributes_at};
 ghost use Rattle.reading.specs.Answers.{GivesAs};
 ghost use Rattle.reading.specs.Readers.{turns};
 
-use crate::class::Constant;
-use crate::error::ClassError;
-use crate::name::Name;
 use crate::numbers::{take, u16_at, u32_at};
-use crate::references::text_of;
+use class_file::{ClassError, Constant, Name, text_of};
 use reading::offset;
 
 /// The number of a name or a descriptor.

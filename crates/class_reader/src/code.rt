@@ -1,15 +1,14 @@
 //! The Code of a method (4.7.3).
 
 ghost use Rattle.std.specs.Prelude.{◌≡◌};
-ghost use Rattle.class_reader.specs.declared.error.ClassError.TheVariants.{Memory};
+ghost use Rattle.class_file.specs.declared.error.ClassError.TheVariants.{Memory};
 ghost use Rattle.class_reader.specs.MemberReaders.{row_at, rows_at, instructions_at, code_content_at, code_at};
 ghost use Rattle.reading.specs.Answers.{GivesAs};
 ghost use Rattle.reading.specs.Readers.{times};
 
 use crate::attributes::attributes;
-use crate::class::{Code, Constant, ExceptionRow};
-use crate::error::ClassError;
 use crate::numbers::{check, take, u16_at, u32_at};
+use class_file::{ClassError, Code, Constant, ExceptionRow};
 use reading::offset;
 use sqlite_items::Items;
 use std::alloc::Global;
@@ -59,7 +58,7 @@ fn code_content<'a>(
     Ok((code, rest))
 }
 
-#[tactic(auto, unfolding(crate::specs::MemberReaders::instructions_at, reading::specs::Readers::bind, reading::specs::Readers::test))]
+#[tactic(auto, unfolding(crate::specs::MemberReaders::instructions_at, reading::specs::Readers::bind, reading::specs::Readers::requires_that))]
 fn instructions(end: u32, at: u32, bytes: &[u8]) -> Result<(&[u8], &[u8]), ClassError>
     ensures { GivesAs Memory (λ x. (x.0.now, x.1.now)) result (instructions_at end at bytes.now) }
 {

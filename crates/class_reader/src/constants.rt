@@ -1,15 +1,13 @@
 //! The constant pool (4.4).
 
 ghost use Rattle.std.specs.Prelude.{◌≡◌, ◌<◌, ◌≤◌};
-ghost use Rattle.class_reader.specs.declared.error.ClassError.TheVariants.{Memory};
+ghost use Rattle.class_file.specs.declared.error.ClassError.TheVariants.{Memory};
 ghost use Rattle.class_reader.specs.ConstantReaders.{utf8_at, two_at, wide_bits_at, handle_at, content_at, constant_at, slot_at, slots_at, pool_at, takes_two};
 ghost use Rattle.reading.specs.Answers.{GivesAs};
 
-use crate::class::Constant;
-use crate::error::ClassError;
-use crate::name::Name;
 use crate::numbers::{check, take, u8_at, u16_at, u32_at, u64_at};
 use crate::references::references;
+use class_file::{ClassError, Constant, Name};
 use reading::offset;
 use std::alloc::Global;
 
@@ -157,7 +155,7 @@ fn utf8(alloc: Global, end: u32, bytes: &[u8]) -> Result<(Constant, &[u8]), Clas
 }
 
 /// The eight bytes of an entry that takes two numbers.
-#[tactic(auto, unfolding(crate::specs::ConstantReaders::wide_bits_at, reading::specs::Readers::bind, reading::specs::Readers::test))]
+#[tactic(auto, unfolding(crate::specs::ConstantReaders::wide_bits_at, reading::specs::Readers::bind, reading::specs::Readers::requires_that))]
 fn wide(end: u32, left: u16, at: u32, bytes: &[u8]) -> Result<(u64, &[u8]), ClassError>
     ensures { GivesAs Memory (λ x. (x.0, x.1.now)) result (wide_bits_at end left at bytes.now) }
 {

@@ -1,17 +1,15 @@
 //! Fields (4.5).
 
 ghost use Rattle.std.specs.Prelude.{◌≡◌, ℕ};
-ghost use Rattle.class_reader.specs.declared.error.ClassError.TheVariants.{Memory};
+ghost use Rattle.class_file.specs.declared.error.ClassError.TheVariants.{Memory};
 ghost use Rattle.class_reader.specs.MemberReaders.{value_index_at, value_at, field_content_at, field_attribute_at, field_attributes_at, field_at, fields_at};
 ghost use Rattle.reading.specs.Answers.{GivesAs};
 ghost use Rattle.reading.specs.Readers.{times, turns};
 
 use crate::attributes::{name, skip};
-use crate::class::{Constant, Field};
-use crate::error::ClassError;
-use crate::name::Name;
 use crate::numbers::{check, u16_at, u32_at};
 use crate::references::is_value;
+use class_file::{ClassError, Constant, Field, Name};
 use reading::offset;
 use std::alloc::Global;
 
@@ -133,7 +131,7 @@ fn attribute_content<'a>(
 }
 
 /// A length, which has to be 2, and the number of a value.
-#[tactic(auto, unfolding(crate::specs::MemberReaders::value_at, reading::specs::Readers::located, reading::specs::Readers::bind, reading::specs::Readers::test))]
+#[tactic(auto, unfolding(crate::specs::MemberReaders::value_at, reading::specs::Readers::located, reading::specs::Readers::bind, reading::specs::Readers::requires_that))]
 fn value<'a>(
     pool: &[Option<Constant>],
     end: u32,
@@ -147,7 +145,7 @@ fn value<'a>(
     value_index(pool, end, rest)
 }
 
-#[tactic(auto, unfolding(crate::specs::MemberReaders::value_index_at, reading::specs::Readers::located, reading::specs::Readers::bind, reading::specs::Readers::test, reading::specs::Readers::done))]
+#[tactic(auto, unfolding(crate::specs::MemberReaders::value_index_at, reading::specs::Readers::located, reading::specs::Readers::bind, reading::specs::Readers::requires_that, reading::specs::Readers::done))]
 fn value_index<'a>(
     pool: &[Option<Constant>],
     end: u32,

@@ -1,4 +1,4 @@
-//! Class files (JVM Specification SE 8, chapter 4), of majors 45 to 52. [`read_class`] answers the class
+//! Reading class files (JVM Specification SE 8, chapter 4), of majors 45 to 52. [`read_class`] answers the class
 //! that some bytes spell, or their first fault with its place. What is read: the constant pool, fields with
 //! their ConstantValue, methods with their Code and its exception table. Every other attribute is skipped by
 //! its length. Utf8 contents, flags, descriptors and exception rows aren't checked here.
@@ -9,20 +9,12 @@
 #![tactic(auto)]
 
 mod attributes;
-mod class;
 mod code;
 mod constants;
-mod error;
 mod fields;
 mod methods;
-mod name;
 mod numbers;
 mod read;
 mod references;
-#[cfg(test)]
-mod tests;
 
-pub use class::{ClassFile, Code, Constant, ExceptionRow, Field, Found, Method, MethodId};
-pub use error::ClassError;
-pub use name::Name;
 pub use read::{class_or_fault, read_class};

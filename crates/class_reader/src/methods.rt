@@ -1,17 +1,15 @@
 //! Methods (4.6).
 
 ghost use Rattle.std.specs.Prelude.{◌≡◌, ◌<◌, ◌≤◌, ℕ, IfOk, vec_len};
-ghost use Rattle.class_reader.specs.declared.error.ClassError.TheVariants.{Memory};
+ghost use Rattle.class_file.specs.declared.error.ClassError.TheVariants.{Memory};
 ghost use Rattle.class_reader.specs.MemberReaders.{method_content_at, method_attribute_at, method_attributes_at, method_at, methods_at};
 ghost use Rattle.reading.specs.Answers.{GivesAs};
 ghost use Rattle.reading.specs.Readers.{times, turns};
 
 use crate::attributes::{name, skip};
-use crate::class::{Code, Constant, Method};
 use crate::code::code;
-use crate::error::ClassError;
-use crate::name::Name;
 use crate::numbers::u16_at;
+use class_file::{ClassError, Code, Constant, Method, Name};
 use std::alloc::Global;
 
 /// The methods of a class, and their count.

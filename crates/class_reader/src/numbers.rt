@@ -2,12 +2,12 @@
 
 ghost use Rattle.std.specs.Prelude.{◌≡◌, length, IfOk};
 ghost use Rattle.class_reader.specs.Numbers.{u1, u2, u4, u8};
-ghost use Rattle.class_reader.specs.declared.error.ClassError.TheVariants.{Memory, Truncated};
+ghost use Rattle.class_file.specs.declared.error.ClassError.TheVariants.{Memory, Truncated};
 ghost use Rattle.reading.specs.Answers.{GivesAs};
 ghost use Rattle.reading.specs.Readers.{bytes, check};
 
-use crate::error::ClassError;
 use byteorder::{BigEndian, ByteOrder};
+use class_file::ClassError;
 
 /// The next so many bytes. Each reader here takes the length of the whole file as `end`, and answers with
 /// the bytes that it leaves.

@@ -1,21 +1,20 @@
 //! A whole class file (4.1).
 
 ghost use Rattle.std.specs.Prelude.{◌≡◌, ◌<◌, ◌≤◌, ◌⊎◌, ℕ, List, ◌++◌, length, Some, None, IfOk, IfErr, MatchResult, vec_len};
-ghost use Rattle.class_reader.specs.declared.error.ClassError.TheVariants.{Memory, Truncated, Trailing};
-ghost use Rattle.class_reader.specs.Contents.{Contents};
+ghost use Rattle.class_file.specs.declared.error.ClassError.TheVariants.{Memory, Truncated, Trailing};
+ghost use Rattle.class_file.specs.Contents.{Contents};
 ghost use Rattle.class_reader.specs.ClassReaders.{head_at, class_index_at, super_index_at, interface_turn, interfaces_at, this_class_at, members_at, class_at, class_of, first_class_fault};
 ghost use Rattle.class_reader.specs.ClassTexts.{SpellsClass};
 ghost use Rattle.reading.specs.Answers.{GivesAs};
 ghost use Rattle.reading.specs.Readers.{turns};
 
 use crate::attributes::attributes;
-use crate::class::{ClassFile, Constant, Field, Method};
 use crate::constants::pool;
-use crate::error::ClassError;
 use crate::fields::fields;
 use crate::methods::methods;
 use crate::numbers::{check, u16_at, u32_at};
 use crate::references::is_class;
+use class_file::{ClassError, ClassFile, Constant, Field, Method};
 use reading::offset;
 use std::alloc::Global;
 
@@ -79,7 +78,7 @@ fn class(alloc: Global, end: u32, bytes: &[u8]) -> Result<(ClassFile, &[u8]), Cl
 }
 
 /// What stands before the pool, and the pool's count.
-#[tactic(auto, unfolding(crate::specs::ClassReaders::head_at, reading::specs::Readers::bind, reading::specs::Readers::test, reading::specs::Readers::done))]
+#[tactic(auto, unfolding(crate::specs::ClassReaders::head_at, reading::specs::Readers::bind, reading::specs::Readers::requires_that, reading::specs::Readers::done))]
 fn head(end: u32, bytes: &[u8]) -> Result<(u16, &[u8]), ClassError>
     ensures read { GivesAs Memory (λ x. (x.0, x.1.now)) result (head_at end bytes.now) }
     ensures some { IfOk result (λ x. 0 < x.0) }
@@ -141,7 +140,7 @@ fn this_class<'a>(
 }
 
 /// The number of a Class.
-#[tactic(auto, unfolding(crate::specs::ClassReaders::class_index_at, reading::specs::Readers::located, reading::specs::Readers::bind, reading::specs::Readers::test, reading::specs::Readers::done))]
+#[tactic(auto, unfolding(crate::specs::ClassReaders::class_index_at, reading::specs::Readers::located, reading::specs::Readers::bind, reading::specs::Readers::requires_that, reading::specs::Readers::done))]
 fn class_index<'a>(
     pool: &[Option<Constant>],
     end: u32,
@@ -156,7 +155,7 @@ fn class_index<'a>(
 }
 
 /// The number of a Class, or 0.
-#[tactic(auto, unfolding(crate::specs::ClassReaders::super_index_at, reading::specs::Readers::located, reading::specs::Readers::bind, reading::specs::Readers::test, reading::specs::Readers::done))]
+#[tactic(auto, unfolding(crate::specs::ClassReaders::super_index_at, reading::specs::Readers::located, reading::specs::Readers::bind, reading::specs::Readers::requires_that, reading::specs::Readers::done))]
 fn super_index<'a>(
     pool: &[Option<Constant>],
     end: u32,

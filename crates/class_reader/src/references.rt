@@ -1,37 +1,11 @@
 //! What the entries of the constant pool refer to.
 
-ghost use Rattle.std.specs.Prelude.{◌≡◌, ◌+◌, ◌≤◌, length, drop, option_map};
-ghost use Rattle.std.specs.Option.{option_copied};
-ghost use Rattle.class_reader.specs.Pools.{constant_of, text_of, is_utf8, is_class, is_name_and_type, is_value};
+ghost use Rattle.std.specs.Prelude.{◌≡◌, ◌+◌, ◌≤◌, length, drop};
+ghost use Rattle.class_file.specs.Pools.{is_utf8, is_class, is_name_and_type, is_value};
 ghost use Rattle.class_reader.specs.References.{references, slot_references, slot_size, entry_size, entry_references, member_references, reference};
 
-use crate::class::Constant;
-use crate::error::ClassError;
-use crate::name::Name;
+use class_file::{ClassError, Constant, constant_of, text_of};
 use reading::{check, offset};
-
-/// The entry of a number of the pool.
-pub fn constant_of(pool: &[Option<Constant>], number: u16) -> Option<&Constant>
-    ensures { option_copied result ≡ constant_of pool.now number }
-{
-    if number == 0 {
-        return None;
-    }
-    match pool.get(number as usize - 1) {
-        Some(Some(constant)) => Some(constant),
-        _ => None,
-    }
-}
-
-/// The text of a Utf8.
-pub fn text_of(pool: &[Option<Constant>], number: u16) -> Option<&Name>
-    ensures { option_copied result ≡ text_of pool.now number }
-{
-    match constant_of(pool, number) {
-        Some(Constant::Utf8(text)) => Some(text),
-        _ => None,
-    }
-}
 
 fn is_utf8(pool: &[Option<Constant>], number: u16) -> bool
     ensures { result ≡ is_utf8 pool.now number }

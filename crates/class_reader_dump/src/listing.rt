@@ -1,4 +1,5 @@
-use class_reader::{ClassError, ClassFile, Code, Constant, Field, Method, read_class};
+use class_file::{ClassError, ClassFile, Code, Constant, Field, Method};
+use class_reader::read_class;
 use std::alloc::{AllocError, Global};
 
 /// The listing of a class, or its first fault. More than 1,048,576 bytes are no class.

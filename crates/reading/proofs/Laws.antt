@@ -3,7 +3,7 @@ use Rattle.std.proofs.Common.{◌≡◌, ℕ, zero, suc, ◌+◌, ◌-◌, ◌<�
 use Rattle.std.proofs.lemmas.Bool.{ltb-false, le-ltb, lt-ltb, eqb-true}
 use Rattle.std.proofs.lemmas.Bool.Decides.{nat_tests}
 use Rattle.std.proofs.lemmas.List.{take_at, drop_at, take-append-drop, length-append, length-take, append-nil}
-use Rattle.reading.specs.Readers.{Read, Reader, continue_with, bind, done, fail, test, found, located, byte, bytes, is_exactly, exactly, passed, checked, turns, one_more, is_whole, whole}
+use Rattle.reading.specs.Readers.{Read, Reader, continue_with, bind, done, fail, requires_that, found, located, byte, bytes, is_exactly, exactly, passed, checked, turns, one_more, is_whole, whole}
 use Rattle.reading.specs.Grammars as grammar
 use Rattle.reading.specs.Grammars.{Grammar, Joined}
 use Rattle.reading.specs.Reads.{Takes, Reads}
@@ -93,8 +93,8 @@ pub fail_reads : {E A : Type 0} {cut : E} (e : E) → Reads cut (fail {E = E} {A
 unfolding fail
 fail_reads e = record { sound = λ all z rest h. absurd cc; complete = λ z text rest h. absurd h; short = λ z text front back h is lt. absurd h }
 
-pub test_reads : {E : Type 0} {cut : E} (b : Bool) (e : E) → Reads cut (test b e) (grammar.test b)
-unfolding test
+pub test_reads : {E : Type 0} {cut : E} (b : Bool) (e : E) → Reads cut (requires_that b e) (grammar.test b)
+unfolding requires_that
 test_reads {E = E} true e = record {
   sound = λ all z rest h. record { text = []; parts = same_rest {E = E} tt z all rest h; is = (refl, refl) };
   complete = λ z text rest h. rw h.1 refl;

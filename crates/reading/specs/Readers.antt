@@ -39,8 +39,8 @@ and_rest (Ok x) rest = Ok (x, rest)
 and_rest (Err e) rest = Err e
 
 -- a test that has to hold here
-unfoldable pub test : {E : Type 0} → Bool → E → Reader E (Unit {0})
-test holds e = λ bytes. and_rest (check holds e) bytes
+unfoldable pub requires_that : {E : Type 0} → Bool → E → Reader E (Unit {0})
+requires_that holds e = λ bytes. and_rest (check holds e) bytes
 
 abbrev pub some_or : {E A : Type 0} → Option A → E → Result A E
 some_or (Some x) e = Ok x

@@ -1,5 +1,5 @@
 use Rattle.std.proofs.lemmas.Result.{err_from_is_err_and}
-use Rattle.class_reader.specs.declared.error.ClassError.TheVariants.{Memory}
+use Rattle.class_file.specs.declared.error.ClassError.TheVariants.{Memory}
 use Rattle.class_reader.specs.MemberReaders.{attribute_turn}
 use Rattle.reading.proofs.Turns.{goes_on, fails, ends}
 use Rattle.class_reader.proofs.attributes.each_attribute.Goals as goal

@@ -1,6 +1,6 @@
 use Rattle.std.proofs.lemmas.Result.{err_from_is_err_and}
 use Rattle.std.proofs.Common.{◌-◌, ◌+◌}
-use Rattle.class_reader.specs.declared.error.ClassError.TheVariants.{Memory}
+use Rattle.class_file.specs.declared.error.ClassError.TheVariants.{Memory}
 use Rattle.class_reader.specs.MemberReaders.{field_attribute_at}
 use Rattle.reading.proofs.Turns.{goes_on, fails, ends}
 use Rattle.class_reader.proofs.fields.each_attribute.Goals as goal

@@ -1,5 +1,5 @@
 use Rattle.std.proofs.lemmas.Result.{err_from_is_err_and}
-use Rattle.class_reader.specs.declared.error.ClassError.TheVariants.{Memory}
+use Rattle.class_file.specs.declared.error.ClassError.TheVariants.{Memory}
 use Rattle.class_reader.specs.MemberReaders.{field_at}
 use Rattle.reading.specs.Readers.{one_more}
 use Rattle.reading.proofs.Turns.{list_goes_on, list_fails, ends}

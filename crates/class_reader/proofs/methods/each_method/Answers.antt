@@ -1,6 +1,6 @@
 use Rattle.std.proofs.Common.{arith}
 use Rattle.std.proofs.lemmas.Result.{err_from_is_err_and}
-use Rattle.class_reader.specs.declared.error.ClassError.TheVariants.{Memory}
+use Rattle.class_file.specs.declared.error.ClassError.TheVariants.{Memory}
 use Rattle.class_reader.specs.MemberReaders.{method_at}
 use Rattle.reading.specs.Readers.{one_more}
 use Rattle.reading.proofs.Turns.{list_goes_on, list_fails, ends}

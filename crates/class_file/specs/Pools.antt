@@ -1,7 +1,7 @@
 -- The constant pool by numbers, which count from 1.
 use Rattle.std.specs.Prelude.{ℕ, zero, suc, Bool, true, false, List, Option, Some, None, is_some, slice_get}
-use Rattle.class_reader.specs.declared.class.Constant.{Constant}
-use Rattle.class_reader.specs.declared.class.Constant.TheVariants.{Utf8, Integer, Float, Long, Double, Class, Str, NameAndType}
+use Rattle.class_file.specs.declared.class.Constant.{Constant}
+use Rattle.class_file.specs.declared.class.Constant.TheVariants.{Utf8, Integer, Float, Long, Double, Class, Str, NameAndType}
 
 abbrev pub Pool : Type 0
 Pool = List (Option Constant)

@@ -1,8 +1,8 @@
 -- Fields and methods by name and descriptor.
 use Rattle.std.specs.Prelude.{ℕ, ◌==◌, ◌&&◌, not, Bool, true, List, Option, Some, None, is_some, bit_and}
 use Rattle.std.specs.Str.{bytes_eq}
-use Rattle.class_reader.specs.declared.class.Field.{Field}
-use Rattle.class_reader.specs.declared.class.Method.{Method}
+use Rattle.class_file.specs.declared.class.Field.{Field}
+use Rattle.class_file.specs.declared.class.Method.{Method}
 
 -- ACC_STATIC is 0x0008
 abbrev pub is_static : ℕ → Bool

@@ -1,5 +1,5 @@
 ghost use Rattle.std.specs.Prelude.{◌≡◌};
-ghost use Rattle.class_reader.specs.declared.error.ClassError.TheVariants.{Memory};
+ghost use Rattle.class_file.specs.declared.error.ClassError.TheVariants.{Memory};
 
 use std::alloc::{AllocError, AllocFailed};
 use thiserror::Error;

@@ -1,15 +1,15 @@
 ghost use Rattle.std.specs.Prelude.{◌≡◌, ◌<◌, length, count_by, position, option_map, slice_get, find, IfSome, vec_len};
 ghost use Rattle.std.specs.Option.{option_copied};
-ghost use Rattle.class_reader.specs.Members.{answers_to, is_named};
-ghost use Rattle.class_reader.specs.Pools.{constant_of};
+ghost use Rattle.class_file.specs.Members.{answers_to, is_named};
+ghost use Rattle.class_file.specs.Pools.{constant_of};
 
 use crate::name::Name;
-use crate::references::constant_of;
+use crate::pool::constant_of;
 use sqlite_items::Items;
 use std::marker::Model;
 
 /// ACC_STATIC, the flag of a static field or method (4.5, 4.6).
-pub const STATIC: u16 = 0x0008;
+const STATIC: u16 = 0x0008;
 
 /// An entry of the constant pool, with the numbers or bytes of the entry in their order (4.4).
 #[derive(Drop)]
@@ -121,7 +121,7 @@ pub struct ClassFile {
 
 impl Model for ClassFile {
     ghost use Rattle.std.specs.Prelude.{◌<◌, ◌^◌, length};
-    ghost use Rattle.class_reader.specs.Contents.{Contents};
+    ghost use Rattle.class_file.specs.Contents.{Contents};
 
     ghost Value = { Contents };
 
@@ -131,17 +131,17 @@ impl Model for ClassFile {
 }
 
 impl ClassFile {
-    ghost use Rattle.class_reader.specs.ClassReaders.{contents};
+    ghost use Rattle.class_file.specs.Contents.{contents};
 
     /// The class of these parts, which has fewer than 65,536 methods.
-    pub(crate) fn new(
+    pub fn new(
         pool: Vec<Option<Constant>>,
         this_class: u16,
         fields: Vec<Field>,
         methods: Vec<Method>,
     ) -> ClassFile
         requires { vec_len methods < 65536 }
-        ensures { result ≡ contents pool.items (this_class, fields.items, methods.items) }
+        ensures { result ≡ contents pool.items this_class fields.items methods.items }
     {
         ClassFile {
             pool: Items::from_vec(pool),
