@@ -6,8 +6,6 @@
 mod decoding;
 mod operands;
 mod table;
-#[cfg(test)]
-mod tests;
 
 pub use decoding::{CodeError, Inst, decode};
 pub use table::{OpRow, Operands, row_of, wide_row_of};

@@ -1,25 +1,26 @@
 -- The states of a run, its end and its traces.
-use Rattle.std.proofs.Common.{◌≡◌, ℕ, zero, suc, ◌+◌, ◌-◌, ◌<◌, ◌≤◌, ◌↔◌, [], ◌∷◌, map, slice_get, Some, None, Ok, Err, refl, sym, ap, ◌∙◌, inl, inr, arith}
+use Rattle.std.proofs.Common.{◌≡◌, ℕ, zero, suc, ◌+◌, ◌-◌, ◌<◌, ◌≤◌, ◌↔◌, ◌⊎◌, [], ◌∷◌, map, take, slice_get, Some, None, Ok, Err, refl, sym, ap, ◌∙◌, inl, inr, arith}
 use Rattle.std.specs.Prelude.{option_map}
 use Rattle.std.proofs.lemmas.Bool.{cases_lt, cond_below, cond_above}
 use Rattle.std.proofs.lemmas.Option.{slice_get-map}
 use Rattle.axe_io.specs.Shapes.{ShapeParts}
-use Rattle.class_reader.specs.Contents.{Contents}
-use Rattle.jvm_meaning.specs.declared.value.End.{End}
-use Rattle.jvm_meaning.specs.declared.state.State.{State}
-use Rattle.jvm_meaning.specs.declared.state.Limits.{Limits}
-use Rattle.jvm_meaning.specs.declared.state.Site.{Site}
-use Rattle.jvm_meaning.specs.Machine.{Step, step, site_of}
+use Rattle.class_file.specs.Contents.{Contents}
+use Rattle.jvm_meaning.specs.Numbers.{End, State, Step}
+use Rattle.jvm_state.specs.declared.value.End.TheVariants.{MoreSteps}
+use Rattle.jvm_state.specs.declared.state.Limits.{Limits}
+use Rattle.jvm_state.specs.declared.state.Site.{Site}
+use Rattle.jvm_meaning.specs.Steps.{site_of}
+use Rattle.jvm_meaning.specs.Machine.{step}
 use Rattle.jvm_meaning.specs.Runs.{after, run_from}
-use Rattle.jvm_meaning.specs.Traces.{next, reach, more, RunsBothWays, place, trace_from, marked_from, next_visit, site_visited, visit, GoAlike, DoAlike, TraceIsWhereRunsAre, MarkedTraceIsWhatRunsDo, MarksAreBeside, SameTraceIsSameWay, SameMarksIsSameDeeds}
+use Rattle.jvm_meaning.specs.Traces.{next, reach, more, RunsBothWays, place, trace_from, marked_from, next_visit, site_visited, visit, GoAlike, DoAlike, TraceIsWhereRunsAre, MarkedTraceIsWhatRunsDo, MarksAreBeside, SameTraceIsSameWay, SameMarksIsSameDeeds, GoesWith, GoesWithLaws, GoesWithFewer, EndsStay, StepsGoOn, RunEndsWhereItIs, ShorterTraces}
 
 -- one step first, and then the others
-next_first : (c : Contents) (p : ShapeParts) (l : Limits) (n : ℕ) (first : Step) → reach c p l (suc n) first ≡ reach c p l n (next c p l first)
+pub next_first : (c : Contents) (p : ShapeParts) (l : Limits) (n : ℕ) (first : Step) → reach c p l (suc n) first ≡ reach c p l n (next c p l first)
 unfolding reach
 next_first c p l zero first = refl
 next_first c p l (suc n) first = ap (next c p l) (next_first c p l n first)
 
-stays : (c : Contents) (p : ShapeParts) (l : Limits) (n : ℕ) (end : End) → reach c p l n (Err end) ≡ Err end
+pub stays : (c : Contents) (p : ShapeParts) (l : Limits) (n : ℕ) (end : End) → reach c p l n (Err end) ≡ Err end
 unfolding reach
 stays c p l zero end = refl
 stays c p l (suc n) end = ap (next c p l) (stays c p l n end)
@@ -106,13 +107,13 @@ visits_meet : (c : Contents) (p : ShapeParts) (l : Limits) (n : ℕ) (one other 
 unfolding marked_from reach
 visits_meet c p l zero one other alike = refl
 visits_meet c p l (suc n) (Ok s) (Ok t) alike =
-    let here : Some (visit s (step c p l s)) ≡ Some (visit t (step c p l t)) = alike zero (omega arith) in
+    let here : Some (visit c s (step c p l s)) ≡ Some (visit c t (step c p l t)) = alike zero (omega arith) in
     let behind : DoAlike c p l n (step c p l s) (step c p l t) = λ k lt.
     sym (ap (next_visit c p l) (next_first c p l k (Ok s))) ∙ alike (suc k) (omega arith) ∙ ap (next_visit c p l) (next_first c p l k (Ok t)) in
     let rest = visits_meet c p l n (step c p l s) (step c p l t) behind in
     cc
-visits_meet c p l (suc n) (Ok s) (Err end) alike = let here : Some (visit s (step c p l s)) ≡ None = alike zero (omega arith) in absurd (cc)
-visits_meet c p l (suc n) (Err end) (Ok t) alike = let here : None ≡ Some (visit t (step c p l t)) = alike zero (omega arith) in absurd (cc)
+visits_meet c p l (suc n) (Ok s) (Err end) alike = let here : Some (visit c s (step c p l s)) ≡ None = alike zero (omega arith) in absurd (cc)
+visits_meet c p l (suc n) (Err end) (Ok t) alike = let here : None ≡ Some (visit c t (step c p l t)) = alike zero (omega arith) in absurd (cc)
 visits_meet c p l (suc n) (Err end) (Err last) alike = refl
 
 pub same_deeds : SameMarksIsSameDeeds
@@ -162,3 +163,75 @@ apart c p l n i (Err end) (Err last) lt here same = here refl
 pub out_alike : (c : Contents) (p : ShapeParts) (l : Limits) (n i : ℕ) (one other : Step) → n ≤ i → trace_from (n - i) c p l one ≡ trace_from (n - i) c p l other
 unfolding trace_from
 out_alike c p l n i one other le = let e : n - i ≡ 0 = omega arith in rw e refl
+
+-- ---- states after so many steps
+
+pub goes_on : StepsGoOn
+unfolding reach
+goes_on c p l zero n first = let e : zero + n ≡ n = omega arith in ap (λ k. reach c p l k first) e
+goes_on c p l (suc m) n first =
+    let e : suc m + n ≡ suc (m + n) = omega arith in
+    ap (λ k. reach c p l k first) e ∙ ap (next c p l) (goes_on c p l m n first)
+
+pub ends_stay : EndsStay
+ends_stay c p l m n first e le is =
+    let sum : m ≡ (m - n) + n = omega arith in
+    ap (λ k. reach c p l k first) sum ∙ goes_on c p l (m - n) n first ∙ ap (reach c p l (m - n)) is ∙ stays c p l (m - n) e
+
+pub ends_there : RunEndsWhereItIs
+ends_there c p l n steps first = (
+  λ e le is. both_ways c p l steps first ∙ ap (λ (t : Step). after t more) (ends_stay c p l steps n first e le is),
+  λ s is. both_ways c p l steps first ∙ ap (λ (t : Step). after t more) is,
+)
+
+shorter_trace : (c : Contents) (p : ShapeParts) (l : Limits) (m n : ℕ) (first : Step) → n ≤ m → trace_from n c p l first ≡ take n (trace_from m c p l first)
+unfolding trace_from
+shorter_trace c p l m zero first le = refl
+shorter_trace c p l zero (suc n) first le = absurd (omega arith)
+shorter_trace c p l (suc m) (suc n) (Ok s) le = ap (λ sites. site_of s.frame ∷ sites) (shorter_trace c p l m n (step c p l s) (omega arith))
+shorter_trace c p l (suc m) (suc n) (Err end) le = refl
+
+shorter_marks : (c : Contents) (p : ShapeParts) (l : Limits) (m n : ℕ) (first : Step) → n ≤ m → marked_from n c p l first ≡ take n (marked_from m c p l first)
+unfolding marked_from
+shorter_marks c p l m zero first le = refl
+shorter_marks c p l zero (suc n) first le = absurd (omega arith)
+shorter_marks c p l (suc m) (suc n) (Ok s) le = ap (λ visits. visit c s (step c p l s) ∷ visits) (shorter_marks c p l m n (step c p l s) (omega arith))
+shorter_marks c p l (suc m) (suc n) (Err end) le = refl
+
+pub shorter : ShorterTraces
+shorter c p l m n first le = (shorter_trace c p l m n first le, shorter_marks c p l m n first le)
+
+-- ---- two runs that go alike so far
+
+same_place : (c : Contents) (p : ShapeParts) (l : Limits) (one other : Step) → next_visit c p l one ≡ next_visit c p l other → place one ≡ place other
+same_place c p l one other same = sym (site_next c p l one) ∙ ap (option_map site_visited) same ∙ site_next c p l other
+
+alike_or_last : (n k : ℕ) → k < n + 1 → (k < n) ⊎ (k ≡ n)
+alike_or_last n k lt = elim (cases_lt k n) [
+  | inl less ↦ inl less
+  | inr le ↦ inr (omega arith)
+]
+
+pub goes_alike : GoesWithLaws
+goes_alike c p l n one other = (
+  λ alike. (λ k lt. alike k (omega arith), same_place c p l (reach c p l n one) (reach c p l n other) (alike n (omega arith))),
+  λ goes k lt. elim (alike_or_last n k lt) [
+    | inl less ↦ same_place c p l (reach c p l k one) (reach c p l k other) (goes.0 k less)
+    | inr is ↦ ap (λ j. place (reach c p l j one)) is ∙ goes.1 ∙ sym (ap (λ j. place (reach c p l j other)) is)
+  ],
+)
+
+less_or_same : (m n : ℕ) → m ≤ n → (m < n) ⊎ (m ≡ n)
+less_or_same m n le = elim (cases_lt m n) [
+  | inl less ↦ inl less
+  | inr more ↦ inr (omega arith)
+]
+
+pub goes_fewer : GoesWithFewer
+goes_fewer c p l m n one other le goes = (
+  λ k lt. goes.0 k (omega arith),
+  elim (less_or_same m n le) [
+    | inl less ↦ same_place c p l (reach c p l m one) (reach c p l m other) (goes.0 m less)
+    | inr is ↦ ap (λ j. place (reach c p l j one)) is ∙ goes.1 ∙ sym (ap (λ j. place (reach c p l j other)) is)
+  ],
+)

@@ -2,28 +2,28 @@
 use Rattle.std.specs.Prelude.{ℕ, Bool, false, List, Option, Some, None, option_and_then}
 use Rattle.std.specs.Str.{bytes_eq}
 use Rattle.std.specs.Int.{w32, w64, cast_unsigned}
-use Rattle.class_reader.specs.Contents.{Contents}
-use Rattle.class_reader.specs.Pools.{Pool, constant_of, text_of}
-use Rattle.class_reader.specs.declared.class.Constant.{Constant}
-use Rattle.class_reader.specs.declared.class.Constant.TheVariants.{Integer, Long, Class, Fieldref, Methodref, NameAndType}
+use Rattle.class_file.specs.Contents.{Contents}
+use Rattle.class_file.specs.Pools.{Pool, constant_of, text_of}
+use Rattle.class_file.specs.declared.class.Constant.{Constant}
+use Rattle.class_file.specs.declared.class.Constant.TheVariants.{Integer, Long, Class, Fieldref, Methodref, NameAndType}
 use Rattle.jvm_meaning.specs.declared.constants.Member.{Member as Named}
-use Rattle.jvm_meaning.specs.declared.value.Value.{Value}
-use Rattle.jvm_meaning.specs.declared.value.Value.TheVariants as value
-use Rattle.jvm_meaning.specs.declared.value.Reason.TheVariants.{OutsideProfile}
-use Rattle.jvm_meaning.specs.declared.stop.Stop.TheVariants.{Refused}
-use Rattle.jvm_meaning.specs.declared.sorts.Width.{Width}
-use Rattle.jvm_meaning.specs.declared.sorts.Width.TheVariants as width
-use Rattle.jvm_meaning.specs.Stops.{Part, ◌>>=◌, found}
-use Rattle.jvm_meaning.specs.Stacks.{Operands, push}
+use Rattle.jvm_state.specs.declared.value.Value.{Value}
+use Rattle.jvm_state.specs.declared.value.Value.TheVariants as value
+use Rattle.jvm_state.specs.declared.value.Reason.TheVariants.{OutsideProfile}
+use Rattle.jvm_state.specs.declared.stop.Stop.TheVariants.{Refused}
+use Rattle.jvm_state.specs.declared.sorts.Width.{Width}
+use Rattle.jvm_state.specs.declared.sorts.Width.TheVariants as width
+use Rattle.jvm_state.specs.Stops.{Part, ◌>>=◌, found}
+use Rattle.jvm_state.specs.Stacks.{Operands, push}
 
 -- an Integer as an int, or a Long as a long
-abbrev pub number_in : Width → Option Constant → Option Value
+abbrev pub number_in : Width → Option Constant → Option (Value ℕ ℕ)
 number_in width.Int (Some (Integer n)) = Some (value.Int (cast_unsigned w32 n))
 number_in width.Long (Some (Long n)) = Some (value.Long (cast_unsigned w64 n))
 number_in _ _ = None
 
 -- ldc, ldc_w: an Integer; ldc2_w: a Long
-abbrev pub load_constant : ℕ → Width → ℕ → Contents → ℕ → Operands → Part Operands
+abbrev pub load_constant : ℕ → Width → ℕ → Contents → ℕ → Operands ℕ ℕ → Part (Operands ℕ ℕ)
 load_constant op width number class depth stack = do
   value ← found (number_in width (constant_of class.pool number)) (Refused (OutsideProfile op))
   push depth value stack

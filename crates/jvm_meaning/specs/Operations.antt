@@ -4,24 +4,25 @@ use Rattle.std.specs.Prelude.{ℕ, ◌==◌, nat_le, nat_lt, if◌then◌else◌
 use Rattle.std.specs.Int.{w32, cast_unsigned}
 use Rattle.bv_words.specs.Words.{chop}
 use Rattle.axe_io.specs.declared.parameters.Kind.TheVariants as kind
-use Rattle.class_reader.specs.declared.class.Code.{Code}
+use Rattle.class_file.specs.declared.class.Code.{Code}
 use Rattle.jvm_code.specs.declared.decoding.Inst.{Inst}
 use Rattle.jvm_code.specs.declared.decoding.CodeError.{CodeError}
 use Rattle.jvm_code.specs.declared.decoding.CodeError.TheVariants.{OutOfCode, OutsideTable, Cut}
 use Rattle.jvm_code.specs.Instructions.{instruction_at as row_at}
-use Rattle.jvm_meaning.specs.declared.value.Value.TheVariants as value
-use Rattle.jvm_meaning.specs.declared.value.Reason.{Reason}
-use Rattle.jvm_meaning.specs.declared.value.Reason.TheVariants.{OutsideProfile, BadCode}
-use Rattle.jvm_meaning.specs.declared.sorts.Sort.TheVariants as sort
-use Rattle.jvm_meaning.specs.declared.sorts.Width.TheVariants as width
-use Rattle.jvm_meaning.specs.declared.block.Span.TheVariants.{NoSlot, OneSlot, TwoSlots}
+use Rattle.jvm_state.specs.declared.value.Value.TheVariants as value
+use Rattle.jvm_state.specs.declared.value.Reason.{Reason}
+use Rattle.jvm_state.specs.declared.value.Reason.TheVariants.{OutsideProfile, BadCode}
+use Rattle.jvm_state.specs.declared.sorts.Sort.TheVariants as sort
+use Rattle.jvm_state.specs.declared.sorts.Width.TheVariants as width
+use Rattle.jvm_state.specs.declared.block.Span.TheVariants.{NoSlot, OneSlot, TwoSlots}
 use Rattle.jvm_meaning.specs.declared.operation.Instruction.{Instruction}
 use Rattle.jvm_meaning.specs.declared.operation.Operation.{Operation}
-use Rattle.jvm_meaning.specs.declared.operation.Operation.TheVariants.{Nothing, Stack, Local, Branch, Array, LoadConstant, GetStatic, PutStatic, Invoke, Return}
-use Rattle.jvm_meaning.specs.declared.operation.StackOperation.TheVariants.{Push, Discard, Duplicate, Swap, Binary, Negate, Shift, ToLong, ToInt, Narrow, Compare}
-use Rattle.jvm_meaning.specs.declared.operation.LocalOperation.TheVariants.{Load, Store, Increment}
+use Rattle.jvm_meaning.specs.declared.operation.Operation.TheVariants.{Stack, Move, Increment, Branch, Array, LoadConstant, PutStatic, Invoke, Return}
+use Rattle.jvm_meaning.specs.declared.operation.StackOperation.TheVariants.{Push, Binary, Negate, Shift, ToLong, ToInt, Narrow, Compare}
+use Rattle.jvm_meaning.specs.declared.operation.Move.TheVariants.{Nothing, PushNull, Discard, Duplicate, Swap, Load, Store, GetStatic, Jump, JumpIf}
 use Rattle.jvm_meaning.specs.declared.operation.ArrayOperation.TheVariants.{LoadElement, StoreElement, NewArray, ArrayLength}
-use Rattle.jvm_meaning.specs.declared.operation.Condition.TheVariants.{Always, IfZero, IfInts, IfSame, IfNotSame, IfNull, IfNotNull}
+use Rattle.jvm_meaning.specs.declared.operation.Condition.TheVariants.{IfZero, IfInts}
+use Rattle.jvm_meaning.specs.declared.operation.ReferenceTest.TheVariants.{Same, NotSame, Null, NotNull}
 use Rattle.jvm_meaning.specs.declared.operation.Binary.TheVariants.{Add, Subtract, Multiply, And, Or, Xor}
 use Rattle.jvm_meaning.specs.declared.operation.Shift.TheVariants.{Left, Right, UnsignedRight}
 use Rattle.jvm_meaning.specs.declared.operation.Test.TheVariants.{Equal, NotEqual, Less, NotLess, Greater, NotGreater}
@@ -45,8 +46,8 @@ long n = Stack (Push (value.Long n))
 
 unfoldable pub constants : ℕ → ℤ → Option Operation
 constants op first = row_of op (
-    (0, Nothing)  -- nop
-    ∷ (1, Stack (Push value.Null))  -- aconst_null
+    (0, Move Nothing)  -- nop
+    ∷ (1, Move PushNull)  -- aconst_null
     ∷ (2, int (negsuc 0))  -- iconst_m1
     ∷ (3, int (pos 0))  -- iconst_0
     ∷ (4, int (pos 1))  -- iconst_1
@@ -65,21 +66,21 @@ constants op first = row_of op (
 
 unfoldable pub loads : ℕ → ℤ → Option Operation
 loads op first = row_of op (
-    (21, Local (Load sort.Int (number first)))  -- iload
-    ∷ (22, Local (Load sort.Long (number first)))  -- lload
-    ∷ (25, Local (Load sort.Reference (number first)))  -- aload
-    ∷ (26, Local (Load sort.Int 0))  -- iload_0
-    ∷ (27, Local (Load sort.Int 1))  -- iload_1
-    ∷ (28, Local (Load sort.Int 2))  -- iload_2
-    ∷ (29, Local (Load sort.Int 3))  -- iload_3
-    ∷ (30, Local (Load sort.Long 0))  -- lload_0
-    ∷ (31, Local (Load sort.Long 1))  -- lload_1
-    ∷ (32, Local (Load sort.Long 2))  -- lload_2
-    ∷ (33, Local (Load sort.Long 3))  -- lload_3
-    ∷ (42, Local (Load sort.Reference 0))  -- aload_0
-    ∷ (43, Local (Load sort.Reference 1))  -- aload_1
-    ∷ (44, Local (Load sort.Reference 2))  -- aload_2
-    ∷ (45, Local (Load sort.Reference 3))  -- aload_3
+    (21, Move (Load sort.Int (number first)))  -- iload
+    ∷ (22, Move (Load sort.Long (number first)))  -- lload
+    ∷ (25, Move (Load sort.Reference (number first)))  -- aload
+    ∷ (26, Move (Load sort.Int 0))  -- iload_0
+    ∷ (27, Move (Load sort.Int 1))  -- iload_1
+    ∷ (28, Move (Load sort.Int 2))  -- iload_2
+    ∷ (29, Move (Load sort.Int 3))  -- iload_3
+    ∷ (30, Move (Load sort.Long 0))  -- lload_0
+    ∷ (31, Move (Load sort.Long 1))  -- lload_1
+    ∷ (32, Move (Load sort.Long 2))  -- lload_2
+    ∷ (33, Move (Load sort.Long 3))  -- lload_3
+    ∷ (42, Move (Load sort.Reference 0))  -- aload_0
+    ∷ (43, Move (Load sort.Reference 1))  -- aload_1
+    ∷ (44, Move (Load sort.Reference 2))  -- aload_2
+    ∷ (45, Move (Load sort.Reference 3))  -- aload_3
     ∷ (46, Array (LoadElement kind.Int))  -- iaload
     ∷ (47, Array (LoadElement kind.Long))  -- laload
     ∷ (51, Array (LoadElement kind.Byte))  -- baload
@@ -89,21 +90,21 @@ loads op first = row_of op (
 
 unfoldable pub stores : ℕ → ℤ → Option Operation
 stores op first = row_of op (
-    (54, Local (Store sort.Int (number first)))  -- istore
-    ∷ (55, Local (Store sort.Long (number first)))  -- lstore
-    ∷ (58, Local (Store sort.Reference (number first)))  -- astore
-    ∷ (59, Local (Store sort.Int 0))  -- istore_0
-    ∷ (60, Local (Store sort.Int 1))  -- istore_1
-    ∷ (61, Local (Store sort.Int 2))  -- istore_2
-    ∷ (62, Local (Store sort.Int 3))  -- istore_3
-    ∷ (63, Local (Store sort.Long 0))  -- lstore_0
-    ∷ (64, Local (Store sort.Long 1))  -- lstore_1
-    ∷ (65, Local (Store sort.Long 2))  -- lstore_2
-    ∷ (66, Local (Store sort.Long 3))  -- lstore_3
-    ∷ (75, Local (Store sort.Reference 0))  -- astore_0
-    ∷ (76, Local (Store sort.Reference 1))  -- astore_1
-    ∷ (77, Local (Store sort.Reference 2))  -- astore_2
-    ∷ (78, Local (Store sort.Reference 3))  -- astore_3
+    (54, Move (Store sort.Int (number first)))  -- istore
+    ∷ (55, Move (Store sort.Long (number first)))  -- lstore
+    ∷ (58, Move (Store sort.Reference (number first)))  -- astore
+    ∷ (59, Move (Store sort.Int 0))  -- istore_0
+    ∷ (60, Move (Store sort.Int 1))  -- istore_1
+    ∷ (61, Move (Store sort.Int 2))  -- istore_2
+    ∷ (62, Move (Store sort.Int 3))  -- istore_3
+    ∷ (63, Move (Store sort.Long 0))  -- lstore_0
+    ∷ (64, Move (Store sort.Long 1))  -- lstore_1
+    ∷ (65, Move (Store sort.Long 2))  -- lstore_2
+    ∷ (66, Move (Store sort.Long 3))  -- lstore_3
+    ∷ (75, Move (Store sort.Reference 0))  -- astore_0
+    ∷ (76, Move (Store sort.Reference 1))  -- astore_1
+    ∷ (77, Move (Store sort.Reference 2))  -- astore_2
+    ∷ (78, Move (Store sort.Reference 3))  -- astore_3
     ∷ (79, Array (StoreElement kind.Int))  -- iastore
     ∷ (80, Array (StoreElement kind.Long))  -- lastore
     ∷ (84, Array (StoreElement kind.Byte))  -- bastore
@@ -113,15 +114,15 @@ stores op first = row_of op (
 
 unfoldable pub moves : ℕ → Option Operation
 moves op = row_of op (
-    (87, Stack (Discard OneSlot))  -- pop
-    ∷ (88, Stack (Discard TwoSlots))  -- pop2
-    ∷ (89, Stack (Duplicate OneSlot NoSlot))  -- dup
-    ∷ (90, Stack (Duplicate OneSlot OneSlot))  -- dup_x1
-    ∷ (91, Stack (Duplicate OneSlot TwoSlots))  -- dup_x2
-    ∷ (92, Stack (Duplicate TwoSlots NoSlot))  -- dup2
-    ∷ (93, Stack (Duplicate TwoSlots OneSlot))  -- dup2_x1
-    ∷ (94, Stack (Duplicate TwoSlots TwoSlots))  -- dup2_x2
-    ∷ (95, Stack Swap)  -- swap
+    (87, Move (Discard OneSlot))  -- pop
+    ∷ (88, Move (Discard TwoSlots))  -- pop2
+    ∷ (89, Move (Duplicate OneSlot NoSlot))  -- dup
+    ∷ (90, Move (Duplicate OneSlot OneSlot))  -- dup_x1
+    ∷ (91, Move (Duplicate OneSlot TwoSlots))  -- dup_x2
+    ∷ (92, Move (Duplicate TwoSlots NoSlot))  -- dup2
+    ∷ (93, Move (Duplicate TwoSlots OneSlot))  -- dup2_x1
+    ∷ (94, Move (Duplicate TwoSlots TwoSlots))  -- dup2_x2
+    ∷ (95, Move Swap)  -- swap
     ∷ [])
 
 unfoldable pub arithmetic : ℕ → ℤ → ℤ → Option Operation
@@ -146,7 +147,7 @@ arithmetic op first second = row_of op (
     ∷ (129, Stack (Binary Or width.Long))  -- lor
     ∷ (130, Stack (Binary Xor width.Int))  -- ixor
     ∷ (131, Stack (Binary Xor width.Long))  -- lxor
-    ∷ (132, Local (Increment (number first) second))  -- iinc
+    ∷ (132, Increment (number first) second)  -- iinc
     ∷ (133, Stack ToLong)  -- i2l
     ∷ (136, Stack ToInt)  -- l2i
     ∷ (145, Stack (Narrow kind.Byte))  -- i2b
@@ -169,12 +170,12 @@ branches op first = row_of op (
     ∷ (162, Branch (IfInts NotLess) first)  -- if_icmpge
     ∷ (163, Branch (IfInts Greater) first)  -- if_icmpgt
     ∷ (164, Branch (IfInts NotGreater) first)  -- if_icmple
-    ∷ (165, Branch IfSame first)  -- if_acmpeq
-    ∷ (166, Branch IfNotSame first)  -- if_acmpne
-    ∷ (167, Branch Always first)  -- goto
-    ∷ (198, Branch IfNull first)  -- ifnull
-    ∷ (199, Branch IfNotNull first)  -- ifnonnull
-    ∷ (200, Branch Always first)  -- goto_w
+    ∷ (165, Move (JumpIf Same first))  -- if_acmpeq
+    ∷ (166, Move (JumpIf NotSame first))  -- if_acmpne
+    ∷ (167, Move (Jump first))  -- goto
+    ∷ (198, Move (JumpIf Null first))  -- ifnull
+    ∷ (199, Move (JumpIf NotNull first))  -- ifnonnull
+    ∷ (200, Move (Jump first))  -- goto_w
     ∷ [])
 
 -- newarray: 5 char, 8 byte, 9 short, 10 int, 11 long
@@ -189,7 +190,7 @@ calls op first = row_of op (
     ∷ (173, Return (Some sort.Long))  -- lreturn
     ∷ (176, Return (Some sort.Reference))  -- areturn
     ∷ (177, Return None)  -- return
-    ∷ (178, GetStatic (number first))  -- getstatic
+    ∷ (178, Move (GetStatic (number first)))  -- getstatic
     ∷ (179, PutStatic (number first))  -- putstatic
     ∷ (184, Invoke (number first))  -- invokestatic
     ∷ (190, Array ArrayLength)  -- arraylength

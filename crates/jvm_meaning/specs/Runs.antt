@@ -1,26 +1,23 @@
 -- The run of a method on an input (JVM Specification SE 8, sections 5.5 and 2.6).
-use Rattle.std.specs.Prelude.{ℕ, zero, suc, List, [], ◌∷◌, ◌++◌, map, take, drop, slice_index, codes, position, Option, Some, None, Ok, Err}
+use Rattle.std.specs.Prelude.{ℕ, zero, suc, ◌+◌, nat_lt, not, Bool, false, List, [], ◌∷◌, ◌++◌, map, take, drop, slice_index, codes, position, Option, Some, None, Ok, Err}
 use Rattle.bv_words.specs.Words.{chop}
 use Rattle.axe_io.specs.declared.parameters.Kind.{Kind}
 use Rattle.axe_io.specs.declared.parameters.Kind.TheVariants as kind
 use Rattle.axe_io.specs.declared.parameters.Param.{Param}
 use Rattle.axe_io.specs.Shapes.{ShapeParts, leaf_count, width_of}
-use Rattle.class_reader.specs.Contents.{Contents}
-use Rattle.class_reader.specs.Members.{answers_to}
-use Rattle.class_reader.specs.declared.class.MethodId.{MethodId}
-use Rattle.jvm_meaning.specs.declared.value.Value.{Value}
-use Rattle.jvm_meaning.specs.declared.value.Value.TheVariants as value
-use Rattle.jvm_meaning.specs.declared.value.End.{End}
-use Rattle.jvm_meaning.specs.declared.value.End.TheVariants.{MoreSteps}
-use Rattle.jvm_meaning.specs.declared.arrays.Array.{Array}
-use Rattle.jvm_meaning.specs.declared.heap.Heap.{Heap}
-use Rattle.jvm_meaning.specs.declared.state.State.{State}
-use Rattle.jvm_meaning.specs.declared.state.Waiting.{Waiting}
-use Rattle.jvm_meaning.specs.declared.state.Limits.{Limits}
-use Rattle.jvm_meaning.specs.Values.{narrowed}
+use Rattle.class_file.specs.Contents.{Contents}
+use Rattle.class_file.specs.Members.{answers_to}
+use Rattle.class_file.specs.declared.class.Code.{Code}
+use Rattle.class_file.specs.declared.class.MethodId.{MethodId}
+use Rattle.jvm_meaning.specs.Numbers.{Value, End, Array, Heap, State, Waiting, Step}
+use Rattle.jvm_state.specs.declared.value.Value.TheVariants as value
+use Rattle.jvm_state.specs.declared.value.End.TheVariants.{MoreSteps}
+use Rattle.jvm_state.specs.declared.state.Limits.{Limits}
+use Rattle.jvm_state.specs.Values.{narrowed}
 use Rattle.jvm_meaning.specs.Fields.{start_values}
-use Rattle.jvm_meaning.specs.Calls.{begin}
-use Rattle.jvm_meaning.specs.Machine.{Step, step, started}
+use Rattle.jvm_meaning.specs.Calls.{code_of, begin}
+use Rattle.jvm_meaning.specs.Machine.{step}
+use Rattle.jvm_meaning.specs.Steps.{started}
 
 -- ---- arguments
 
@@ -78,6 +75,34 @@ start_by class method values heap (Some at) =
 -- the method begins, or waits while the initialiser runs
 abbrev pub start : Contents → MethodId → ShapeParts → List ℕ → Step
 start class method shape leaves = start_by class method (arguments 0 shape.params leaves) (start_heap class shape leaves) (initialiser_of class)
+
+-- ---- whether a run has a first state
+
+-- how many local variables an argument of a parameter takes: a long two, every other one
+abbrev pub locals_for : Option ℕ → Kind → ℕ
+locals_for None kind.Long = 2
+locals_for _ _ = 1
+
+abbrev pub locals_taken : List Param → ℕ
+locals_taken [] = 0
+locals_taken (p ∷ ps) = locals_for p.len p.kind + locals_taken ps
+
+-- whether a method's Code has room for so many local variables
+abbrev pub has_room : Option Code → ℕ → Bool
+has_room None taken = false
+has_room (Some code) taken = not (nat_lt code.max_locals taken)
+
+abbrev pub begins_by : Contents → MethodId → List Param → Option ℕ → Bool
+begins_by class method params None = has_room (code_of class method) (locals_taken params)
+begins_by class method params (Some at) = has_room (code_of class (record { 0 = at })) 0
+
+-- whether the runs of a method have a first state: that of the method, or of the initialiser
+abbrev pub begins : Contents → MethodId → ShapeParts → Bool
+begins class method shape = begins_by class method shape.params (initialiser_of class)
+
+abbrev pub IsState : Step → Type 0
+IsState (Ok s) = Unit {0}
+IsState (Err end) = ⊥
 
 -- ---- the run
 

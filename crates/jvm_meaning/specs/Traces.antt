@@ -1,16 +1,23 @@
 -- Where a run goes: the states after so many steps, and its traces.
-use Rattle.std.specs.Prelude.{◌≡◌, ◌↔◌, ◌<◌, ℕ, zero, suc, if◌then◌else◌, nat_lt, List, [], ◌∷◌, ◌++◌, length, map, slice_get, Option, Some, None, Ok, Err}
+use Rattle.std.specs.Prelude.{◌≡◌, ◌↔◌, ◌<◌, ◌≤◌, ◌+◌, ℕ, zero, suc, if◌then◌else◌, nat_lt, List, [], ◌∷◌, ◌++◌, length, map, take, slice_get, Option, Some, None, Result, Ok, Err}
 use Rattle.axe_io.specs.Shapes.{ShapeParts}
-use Rattle.class_reader.specs.Contents.{Contents}
-use Rattle.class_reader.specs.declared.class.MethodId.{MethodId}
-use Rattle.jvm_meaning.specs.declared.value.End.{End}
-use Rattle.jvm_meaning.specs.declared.value.End.TheVariants.{MoreSteps}
-use Rattle.jvm_meaning.specs.declared.arrays.Array.{Array}
-use Rattle.jvm_meaning.specs.declared.state.State.{State}
-use Rattle.jvm_meaning.specs.declared.state.Limits.{Limits}
-use Rattle.jvm_meaning.specs.declared.state.Site.{Site}
-use Rattle.jvm_meaning.specs.Arrays.{Arrays}
-use Rattle.jvm_meaning.specs.Machine.{Step, step, site_of}
+use Rattle.class_file.specs.Contents.{Contents}
+use Rattle.class_file.specs.declared.class.Code.{Code}
+use Rattle.class_file.specs.declared.class.MethodId.{MethodId}
+use Rattle.jvm_state.specs.declared.value.Value.TheVariants.{Int}
+use Rattle.jvm_state.specs.declared.value.Reason.{Reason}
+use Rattle.jvm_state.specs.declared.value.End.TheVariants.{MoreSteps}
+use Rattle.jvm_state.specs.declared.state.Limits.{Limits}
+use Rattle.jvm_state.specs.declared.state.Site.{Site}
+use Rattle.jvm_meaning.specs.declared.operation.Instruction.{Instruction}
+use Rattle.jvm_meaning.specs.declared.operation.Operation.{Operation}
+use Rattle.jvm_meaning.specs.declared.operation.Operation.TheVariants as does
+use Rattle.jvm_meaning.specs.declared.operation.ArrayOperation.TheVariants.{NewArray}
+use Rattle.jvm_meaning.specs.Numbers.{End, Array, Arrays, Operands, State, Step}
+use Rattle.jvm_meaning.specs.Calls.{code_of}
+use Rattle.jvm_meaning.specs.Steps.{site_of}
+use Rattle.jvm_meaning.specs.Operations.{instruction_at}
+use Rattle.jvm_meaning.specs.Machine.{step}
 use Rattle.jvm_meaning.specs.Runs.{after, run_from, start}
 
 -- ---- states forwards
@@ -55,29 +62,57 @@ unfoldable pub trace : Contents → MethodId → ShapeParts → List ℕ → ℕ
 trace class method shape leaves steps frames elements =
     trace_from steps class shape (record { frames = frames; elements = elements }) (start class method shape leaves)
 
--- a step that is made: its place, and the length of the array that it makes, if it makes one
+-- the numbers that an instruction asks for, by its operation and operands: the length of an array that it makes
+abbrev pub asked : Operation → Operands → List ℕ
+asked (does.Array (NewArray kind)) (Int n ∷ rest) = n ∷ []
+asked _ _ = []
+
+-- the lengths of the arrays that an instruction makes, by the numbers that it asked for
+abbrev pub made : Operation → List ℕ → List ℕ
+made (does.Array (NewArray kind)) marks = marks
+made _ marks = []
+
+-- what is so of the instruction of a state, nothing where there is none
+abbrev pub of_instruction : (Operation → Operands → List ℕ) → Operands → Result Instruction Reason → List ℕ
+of_instruction tells stack (Ok instruction) = tells instruction.operation stack
+of_instruction tells stack (Err reason) = []
+
+abbrev pub of_code : (Operation → Operands → List ℕ) → State → Option Code → List ℕ
+of_code tells s None = []
+of_code tells s (Some code) = of_instruction tells s.frame.stack (instruction_at code s.frame.pc)
+
+abbrev pub of_state : (Operation → Operands → List ℕ) → Contents → State → List ℕ
+of_state tells class s = of_code tells s (code_of class s.frame.method)
+
+abbrev pub made_by : Operation → Operands → List ℕ
+made_by operation stack = made operation (asked operation stack)
+
+-- the numbers that the next step asks for, and the lengths of the arrays that it makes where it goes on
+abbrev pub asked_next : Contents → State → List ℕ
+asked_next class s = of_state asked class s
+
+abbrev pub made_next : Contents → State → List ℕ
+made_next class s = of_state made_by class s
+
+-- a step that is made: its place, and the numbers that its instruction asks for
 pub record Visit : Type 0 where
   pub site : Site
-  pub made : Option ℕ
+  pub marks : List ℕ
 
-abbrev pub length_of : Option Array → Option ℕ
-length_of None = None
-length_of (Some a) = Some (length a.elements)
+-- a step that ends the run has no marks
+abbrev pub marks_of : Contents → State → Step → List ℕ
+marks_of class s (Ok next) = asked_next class s
+marks_of class s (Err end) = []
 
--- an array that is made stands behind those that were there; a step that ends the run makes none
-abbrev pub length_made : Arrays → Step → Option ℕ
-length_made arrays (Ok s) = length_of (slice_get s.heap.arrays (length arrays))
-length_made arrays (Err end) = None
-
-abbrev pub visit : State → Step → Visit
-visit s next = record { site = site_of s.frame; made = length_made s.heap.arrays next }
+abbrev pub visit : Contents → State → Step → Visit
+visit class s next = record { site = site_of s.frame; marks = marks_of class s next }
 
 unfoldable pub marked_from : ℕ → Contents → ShapeParts → Limits → Step → List Visit
 marked_from zero class shape limits first = []
-marked_from (suc n) class shape limits (Ok s) = visit s (step class shape limits s) ∷ marked_from n class shape limits (step class shape limits s)
+marked_from (suc n) class shape limits (Ok s) = visit class s (step class shape limits s) ∷ marked_from n class shape limits (step class shape limits s)
 marked_from (suc n) class shape limits (Err end) = []
 
--- the marked trace of a run: its steps, with the length of each array where it is made
+-- the marked trace of a run: its steps, each with the numbers that it asks for
 unfoldable pub marked_trace : Contents → MethodId → ShapeParts → List ℕ → ℕ → ℕ → ℕ → List Visit
 marked_trace class method shape leaves steps frames elements =
     marked_from steps class shape (record { frames = frames; elements = elements }) (start class method shape leaves)
@@ -86,7 +121,7 @@ marked_trace class method shape leaves steps frames elements =
 
 -- the step that is made next, none behind the end
 abbrev pub next_visit : Contents → ShapeParts → Limits → Step → Option Visit
-next_visit class shape limits (Ok s) = Some (visit s (step class shape limits s))
+next_visit class shape limits (Ok s) = Some (visit class s (step class shape limits s))
 next_visit class shape limits (Err end) = None
 
 -- a trace has at each number the place after as many steps, and nothing from the most steps on
@@ -133,11 +168,49 @@ elements_in a = length a.elements
 abbrev pub lengths : Arrays → List ℕ
 lengths arrays = map elements_in arrays
 
-abbrev pub listed : Option ℕ → List ℕ
-listed None = []
-listed (Some n) = n ∷ []
-
--- a step that goes on keeps the lengths of all arrays, and makes none but the one that its mark says
+-- a step that goes on keeps the lengths of all arrays, and makes those that its marks say
 abbrev pub MarksAreAllThatIsMade : Type 0
 MarksAreAllThatIsMade = (class : Contents) (shape : ShapeParts) (limits : Limits) (s t : State)
-    → step class shape limits s ≡ Ok t → lengths t.heap.arrays ≡ lengths s.heap.arrays ++ listed (length_made s.heap.arrays (Ok t))
+    → step class shape limits s ≡ Ok t → lengths t.heap.arrays ≡ lengths s.heap.arrays ++ made_next class s
+
+-- ---- two runs that go alike so far
+
+-- the same marks in each of so many steps, and the same next place
+abbrev pub GoesWith : Contents → ShapeParts → Limits → ℕ → Step → Step → Type 0
+GoesWith class shape limits n one other =
+    DoAlike class shape limits n one other × (place (reach class shape limits n one) ≡ place (reach class shape limits n other))
+
+-- who does the same in one step more is at the same next place, and who is was at the same places before
+abbrev pub GoesWithLaws : Type 0
+GoesWithLaws = (class : Contents) (shape : ShapeParts) (limits : Limits) (n : ℕ) (one other : Step)
+    → (DoAlike class shape limits (n + 1) one other → GoesWith class shape limits n one other)
+    × (GoesWith class shape limits n one other → GoAlike class shape limits (n + 1) one other)
+
+-- and so for fewer steps
+abbrev pub GoesWithFewer : Type 0
+GoesWithFewer = (class : Contents) (shape : ShapeParts) (limits : Limits) (m n : ℕ) (one other : Step)
+    → m ≤ n → GoesWith class shape limits n one other → GoesWith class shape limits m one other
+
+-- ---- states after so many steps
+
+-- an end stays
+abbrev pub EndsStay : Type 0
+EndsStay = (class : Contents) (shape : ShapeParts) (limits : Limits) (m n : ℕ) (first : Step) (e : End)
+    → n ≤ m → reach class shape limits n first ≡ Err e → reach class shape limits m first ≡ Err e
+
+-- further steps go on from where a run is
+abbrev pub StepsGoOn : Type 0
+StepsGoOn = (class : Contents) (shape : ShapeParts) (limits : Limits) (m n : ℕ) (first : Step)
+    → reach class shape limits (m + n) first ≡ reach class shape limits m (reach class shape limits n first)
+
+-- an end that is reached within the steps is the run's, and a state that is reached after them has spent them
+abbrev pub RunEndsWhereItIs : Type 0
+RunEndsWhereItIs = (class : Contents) (shape : ShapeParts) (limits : Limits) (n steps : ℕ) (first : Step)
+    → ((e : End) → n ≤ steps → reach class shape limits n first ≡ Err e → after first (run_from steps class shape limits) ≡ e)
+    × ((s : State) → reach class shape limits steps first ≡ Ok s → after first (run_from steps class shape limits) ≡ MoreSteps)
+
+-- a trace within fewer steps is the beginning of one within more
+abbrev pub ShorterTraces : Type 0
+ShorterTraces = (class : Contents) (shape : ShapeParts) (limits : Limits) (m n : ℕ) (first : Step) → n ≤ m
+    → (trace_from n class shape limits first ≡ take n (trace_from m class shape limits first))
+    × (marked_from n class shape limits first ≡ take n (marked_from m class shape limits first))

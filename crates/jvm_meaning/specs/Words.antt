@@ -1,10 +1,13 @@
 -- Arithmetic on ints and longs (JVM Specification SE 8, section 6.5).
-use Rattle.std.specs.Prelude.{ℕ, ◌+◌, ◌-◌, ◌%◌, ◌==◌, not, if◌then◌else◌, Bool, bit_and, bit_or, bit_xor}
+use Rattle.std.specs.Prelude.{ℕ, ◌+◌, ◌-◌, ◌%◌, ◌==◌, not, if◌then◌else◌, Bool, slice_get, slice_set, Some, ℤ, Ok, bit_and, bit_or, bit_xor}
+use Rattle.std.specs.Int.{w32, cast_unsigned}
 use Rattle.bv_words.specs.Words.{chop, plus, times, neg, sx, slice, shl, shr, slt, rotate_left}
-use Rattle.jvm_meaning.specs.declared.value.Value.TheVariants.{Int, Long}
+use Rattle.jvm_meaning.specs.Numbers.{Operands, Locals}
+use Rattle.jvm_state.specs.declared.value.Value.TheVariants.{Int, Long}
 use Rattle.axe_io.specs.declared.parameters.Kind.{Kind}
-use Rattle.jvm_meaning.specs.declared.sorts.Width.{Width}
-use Rattle.jvm_meaning.specs.declared.sorts.Width.TheVariants as width
+use Rattle.jvm_state.specs.declared.sorts.Sort.TheVariants as sort
+use Rattle.jvm_state.specs.declared.sorts.Width.{Width}
+use Rattle.jvm_state.specs.declared.sorts.Width.TheVariants as width
 use Rattle.jvm_meaning.specs.declared.operation.Binary.{Binary}
 use Rattle.jvm_meaning.specs.declared.operation.Binary.TheVariants.{Add, Subtract, Multiply, And, Or, Xor}
 use Rattle.jvm_meaning.specs.declared.operation.Shift.{Shift}
@@ -13,9 +16,10 @@ use Rattle.jvm_meaning.specs.declared.operation.Turn.{Turn}
 use Rattle.jvm_meaning.specs.declared.operation.Turn.TheVariants as turn
 use Rattle.jvm_meaning.specs.declared.operation.Test.{Test}
 use Rattle.jvm_meaning.specs.declared.operation.Test.TheVariants.{Equal, NotEqual, Less, NotLess, Greater, NotGreater}
-use Rattle.jvm_meaning.specs.Values.{bits_in, value_of, narrowed}
-use Rattle.jvm_meaning.specs.Stops.{Part, ◌>>=◌}
-use Rattle.jvm_meaning.specs.Stacks.{Operands, push, pop_word, pop_int}
+use Rattle.jvm_state.specs.Values.{bits_in, value_of, narrowed}
+use Rattle.jvm_state.specs.Stops.{Part, ◌>>=◌}
+use Rattle.jvm_state.specs.Stacks.{push, pop_word, pop_int}
+use Rattle.jvm_state.specs.Frames.{inside, int_held}
 
 -- add, sub, mul, and, or, xor, of words of so many bits, modulo 2^bits
 abbrev pub binary_word : Binary → ℕ → ℕ → ℕ → ℕ
@@ -100,3 +104,10 @@ holds Less x y = slt 32 x y
 holds NotLess x y = not (slt 32 x y)
 holds Greater x y = slt 32 y x
 holds NotGreater x y = not (slt 32 y x)
+
+-- iinc
+abbrev pub increment : ℕ → ℤ → Locals → Part Locals
+increment k amount locals = do
+  ok ← inside sort.Int k locals
+  n ← int_held (slice_get locals k)
+  Ok (slice_set locals k (Some (Int (plus 32 n (cast_unsigned w32 amount)))))

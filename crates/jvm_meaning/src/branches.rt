@@ -1,12 +1,10 @@
-ghost use Rattle.std.specs.Prelude.{◌≡◌, ◌+◌, ◌≤◌, ◌<◌, ℕ, ℤ, pos, ◌+ℤ◌, not, ◌==◌, IfOk};
-ghost use Rattle.jvm_meaning.specs.Branches.{target, jump, taken_if, with_stack, are_same, pop_same, next_place};
-ghost use Rattle.jvm_meaning.specs.Stops.{Gives};
+ghost use Rattle.std.specs.Prelude.{◌≡◌, ◌+◌, ◌≤◌, ◌<◌, ℕ, ℤ, pos, ◌+ℤ◌, not, ◌==◌, length, IfOk, IfSome};
+ghost use Rattle.jvm_meaning.specs.Branches.{target, jump, branch_in, taken_if, with_stack, are_same, pop_same, tested, branched};
+ghost use Rattle.jvm_state.specs.Stops.{Gives};
 
-use crate::arithmetic::holds;
-use crate::operation::Condition;
-use crate::stack::Stack;
-use crate::stop::{Halt, refuse};
-use crate::value::Reason;
+use crate::operation::ReferenceTest;
+use class_file::Code;
+use jvm_state::{Halt, Reason, Stack, refuse};
 
 /// A branch: its place, the bytes that it takes, its offset, and the length of the code.
 #[derive(Clone, Copy)]
@@ -17,29 +15,45 @@ pub struct Branch {
     pub length: u32,
 }
 
-/// The place that a branch leads to, which has to be in the code.
-fn jump(branch: Branch) -> Result<u32, Halt>
-    ensures place { Gives (λ pc. pc) result (jump branch) }
-    ensures within { IfOk result (λ pc. pc < branch.length) }
+/// The branch at a place of a method's code.
+pub fn branch_in(code: &Code, offset: i32, size: u32, pc: u32) -> Branch
+    requires { length code.now.bytes ≤ 65535 }
+    ensures { result ≡ branch_in code.now offset size pc }
+{
+    let length = code.bytes.len() as u32;
+    Branch {
+        pc,
+        size,
+        offset,
+        length,
+    }
+}
+
+/// The place that a branch leads to; none exactly where it isn't in the code.
+pub fn jump(branch: Branch) -> Option<u32>
+    ensures place { result ≡ jump branch }
+    ensures within { IfSome result (λ pc. pc < branch.length) }
 {
     let place = i64::from(branch.pc) + i64::from(branch.offset);
     if 0 <= place && place < i64::from(branch.length) {
-        Ok(place as u32)
+        Some(place as u32)
     } else {
-        refuse(Reason::BadCode)
+        None
     }
 }
 
 /// The place that a branch leads to where it is taken, and the next one where it isn't.
-fn taken_if(taken: bool, branch: Branch) -> Result<u32, Halt>
+pub fn taken_if(taken: bool, branch: Branch) -> Result<u32, Halt>
     requires { branch.pc + branch.size ≤ branch.length }
     ensures place { Gives (λ pc. pc) result (taken_if taken branch) }
     ensures within { IfOk result (λ pc. pc ≤ branch.length) }
 {
-    if taken {
-        jump(branch)
-    } else {
-        Ok(branch.pc + branch.size)
+    if !taken {
+        return Ok(branch.pc + branch.size);
+    }
+    match jump(branch) {
+        Some(place) => Ok(place),
+        None => refuse(Reason::BadCode),
     }
 }
 
@@ -53,35 +67,37 @@ fn are_same(first: Option<u32>, second: Option<u32>) -> bool
     }
 }
 
-/// The place where a run goes on behind a branch.
-pub fn next_place(condition: Condition, branch: Branch, stack: &mut Stack) -> Result<u32, Halt>
-    requires { branch.pc + branch.size ≤ branch.length }
-    ensures place { Gives (λ pc. (pc, stack.new)) result (next_place condition branch stack.old) }
-    ensures within { IfOk result (λ pc. pc ≤ branch.length) }
-{
-    match condition {
-        Condition::Always => jump(branch),
-        Condition::IfZero(test) => {
-            let number = stack.pop_int()?;
-            taken_if(holds(test, number, 0), branch)
-        }
-        Condition::IfInts(test) => {
-            let second = stack.pop_int()?;
-            let first = stack.pop_int()?;
-            taken_if(holds(test, first, second), branch)
-        }
-        Condition::IfSame => taken_if(pop_same(stack)?, branch),
-        Condition::IfNotSame => taken_if(!pop_same(stack)?, branch),
-        Condition::IfNull => taken_if(stack.pop_reference()?.is_none(), branch),
-        Condition::IfNotNull => taken_if(stack.pop_reference()?.is_some(), branch),
-    }
-}
-
 /// Takes two references, and tells whether they are the same.
-fn pop_same(stack: &mut Stack) -> Result<bool, Halt>
+fn pop_same<I: Copy, L: Copy>(stack: &mut Stack<I, L>) -> Result<bool, Halt>
     ensures { Gives (λ same. (same, stack.new)) result (pop_same stack.old) }
 {
     let second = stack.pop_reference()?;
     let first = stack.pop_reference()?;
     Ok(are_same(first, second))
+}
+
+/// Takes the references that a test looks at, and tells whether it holds.
+fn tested<I: Copy, L: Copy>(test: ReferenceTest, stack: &mut Stack<I, L>) -> Result<bool, Halt>
+    ensures { Gives (λ holds. (holds, stack.new)) result (tested test stack.old) }
+{
+    match test {
+        ReferenceTest::Same => pop_same(stack),
+        ReferenceTest::NotSame => Ok(!pop_same(stack)?),
+        ReferenceTest::Null => Ok(stack.pop_reference()?.is_none()),
+        ReferenceTest::NotNull => Ok(stack.pop_reference()?.is_some()),
+    }
+}
+
+/// if_acmpeq, if_acmpne, ifnull, ifnonnull: the place where a run goes on.
+pub fn branched<I: Copy, L: Copy>(
+    test: ReferenceTest,
+    branch: Branch,
+    stack: &mut Stack<I, L>,
+) -> Result<u32, Halt>
+    requires { branch.pc + branch.size ≤ branch.length }
+    ensures place { Gives (λ pc. (pc, stack.new)) result (branched test branch stack.old) }
+    ensures within { IfOk result (λ pc. pc ≤ branch.length) }
+{
+    let taken = tested(test, stack)?;
+    taken_if(taken, branch)
 }

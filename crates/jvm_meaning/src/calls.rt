@@ -1,23 +1,17 @@
 ghost use Rattle.std.specs.Prelude.{◌≡◌, ◌+◌, ◌≤◌, ◌<◌, ◌∷◌, ◌++◌, [], ℕ, length, reverse, position, option_map, IfSome, IfOk, OnOk};
 ghost use Rattle.std.specs.Option.{option_copied};
-ghost use Rattle.class_reader.specs.Members.{answers_to};
-ghost use Rattle.jvm_meaning.specs.Calls.{code_of, desc_of, locals_of, begin, begin_code, turn_of, turned_width, rotation_of, own_method, named_callee, callee_of, pop_arguments, types_called, called};
+ghost use Rattle.class_file.specs.Members.{answers_to};
+ghost use Rattle.jvm_meaning.specs.Calls.{code_of, desc_of, locals_of, begin, begin_code, turn_of, turned_width, rotation_of, own_method, named_callee, callee_in, pop_arguments, types_called, called};
 ghost use Rattle.jvm_meaning.specs.Constants.{member_seen};
-ghost use Rattle.jvm_meaning.specs.Stops.{Gives, found};
+ghost use Rattle.jvm_state.specs.Stops.{Gives, found};
 ghost use Rattle.jvm_meaning.specs.Types.{types_seen};
 
-use crate::arrays::Arrays;
 use crate::constants::{Member, is_own, method_named};
 use crate::fields::pop_typed;
-use crate::frame::Frame;
 use crate::operation::Turn;
-use crate::sorts::Width;
-use crate::stack::Stack;
-use crate::stop::{Halt, Stop, check, refuse};
 use crate::types::{FieldType, MethodType, method_type};
-use crate::value::{Reason, Value};
-use crate::variables::Locals;
-use class_reader::{ClassFile, Code, MethodId};
+use class_file::{ClassFile, Code, MethodId};
+use jvm_state::{Arrays, Frame, Halt, Locals, Reason, Stack, Stop, Value, Width, check, refuse};
 use std::alloc::{AllocError, Global};
 
 /// What an invokestatic calls.
@@ -47,7 +41,10 @@ pub fn desc_of(class: &ClassFile, method: MethodId) -> &[u8]
 }
 
 /// Puts arguments into local variables: a long takes two, of which the second holds nothing.
-fn place(arguments: &[Value], locals: &mut Locals) -> Result<(), AllocError>
+fn place<I: Copy, L: Copy>(
+    arguments: &[Value<I, L>],
+    locals: &mut Locals<I, L>,
+) -> Result<(), AllocError>
     ensures { OnOk result (locals.new ≡ locals_of arguments.now) }
 {
     locals.clear();
@@ -61,11 +58,11 @@ fn place(arguments: &[Value], locals: &mut Locals) -> Result<(), AllocError>
 }
 
 /// Makes a frame the first one of a method with these arguments, which need room among its local variables.
-pub fn begin(
+pub fn begin<I: Copy, L: Copy>(
     class: &ClassFile,
     method: MethodId,
-    arguments: &[Value],
-    frame: &mut Frame,
+    arguments: &[Value<I, L>],
+    frame: &mut Frame<I, L>,
 ) -> Result<(), Halt>
     ensures { Gives (λ _. frame.new) result (begin class.now method arguments.now) }
 {
@@ -74,7 +71,11 @@ pub fn begin(
 }
 
 /// The same of a method's Code, where the arguments are in the local variables.
-fn begin_code(method: MethodId, code: Option<&Code>, frame: &mut Frame) -> Result<(), Halt>
+fn begin_code<I: Copy, L: Copy>(
+    method: MethodId,
+    code: Option<&Code>,
+    frame: &mut Frame<I, L>,
+) -> Result<(), Halt>
     ensures { Gives (λ _. frame.new) result (begin_code method (option_copied code.entry) frame.old.locals) }
 {
     let Some(code) = code else {
@@ -144,26 +145,21 @@ fn named_callee(class: &ClassFile, member: &Member<'_>) -> Option<Callee>
     }
 }
 
-/// What an invokestatic calls.
-pub fn callee_of(class: &ClassFile, number: u16) -> Result<Callee, Halt>
-    ensures { Gives (λ x. x) result (callee_of class.now number) }
+/// What an invokestatic calls; none exactly where the number names no such method.
+pub fn callee_in(class: &ClassFile, number: u16) -> Option<Callee>
+    ensures { result ≡ callee_in class.now number }
 {
-    let Some(member) = method_named(class, number) else {
-        return refuse(Reason::UnknownCallee);
-    };
-    match named_callee(class, &member) {
-        Some(callee) => Ok(callee),
-        None => refuse(Reason::UnknownCallee),
-    }
+    let member = method_named(class, number)?;
+    named_callee(class, &member)
 }
 
 /// Takes the values of these types, the first of which is the type of the top. They are given from the last one on.
-fn pop_arguments(
+fn pop_arguments<I: Copy, L: Copy, E: Copy>(
     alloc: Global,
     types: &[FieldType],
-    arrays: &Arrays,
-    stack: &mut Stack,
-) -> Result<Vec<Value>, Halt>
+    arrays: &Arrays<E>,
+    stack: &mut Stack<I, L>,
+) -> Result<Vec<Value<I, L>>, Halt>
     ensures { Gives (λ taken. (taken.items, stack.new)) result (pop_arguments types.now arrays.now [] stack.old) }
 {
     let mut taken = Vec::new(alloc);
@@ -186,15 +182,15 @@ fn types_of(alloc: Global, class: &ClassFile, method: MethodId) -> Result<Method
 }
 
 /// Takes the arguments of a method that is called where so many frames are open, and begins it in a new frame.
-pub fn called(
+pub fn called<I: Copy, L: Copy, E: Copy>(
     alloc: Global,
     class: &ClassFile,
     limit: u32,
     opened: usize,
     method: MethodId,
-    arrays: &Arrays,
-    stack: &mut Stack,
-) -> Result<Frame, Halt>
+    arrays: &Arrays<E>,
+    stack: &mut Stack<I, L>,
+) -> Result<Frame<I, L>, Halt>
     ensures { Gives (λ frame. (frame, stack.new)) result (called class.now limit opened method arrays.now stack.old) }
 {
     let mut types = types_of(alloc, class, method)?;

@@ -1,28 +1,24 @@
-ghost use Rattle.std.specs.Prelude.{◌≡◌, ◌<◌, length, position, IfSome, OnOk};
-ghost use Rattle.std.specs.Option.{option_copied};
-ghost use Rattle.class_reader.specs.Members.{is_named};
-ghost use Rattle.jvm_meaning.specs.Fields.{fits, stored, pop_typed, default_value, constant_value, start_value, start_values, static_in, first_static, own_field, static_field, field_of, get_static, put_static};
+ghost use Rattle.std.specs.Prelude.{◌≡◌, ◌<◌, length, position, IfSome};
+ghost use Rattle.class_file.specs.Members.{is_named, is_static};
+ghost use Rattle.jvm_meaning.specs.Fields.{fits, pop_typed, static_in, first_static, own_field, static_field, get_static, pop_static};
 ghost use Rattle.jvm_meaning.specs.Constants.{member_seen};
-ghost use Rattle.jvm_meaning.specs.Stops.{Gives};
+ghost use Rattle.jvm_state.specs.Stops.{Gives};
 
-use crate::arithmetic::narrowed;
-use crate::arrays::Arrays;
-use crate::cells::Cells;
 use crate::constants::{Member, field_named, is_own};
-use crate::heap::Heap;
-use crate::stack::Stack;
-use crate::stop::{Halt, refuse};
 use crate::types::{FieldType, field_type};
-use crate::value::{Reason, Value};
 use axe_io::Kind;
-use class_reader::{ClassFile, Constant, Field};
-use std::alloc::AllocError;
+use class_file::{ClassFile, Field};
+use jvm_state::{Arrays, Cells, Halt, Reason, Stack, Value, refuse};
 
 /// ACC_STATIC, the flag of a static field (JVM Specification SE 8, section 4.5).
 const STATIC: u16 = 0x0008;
 
 /// Whether a value is of a type.
-pub fn fits(field_type: FieldType, arrays: &Arrays, value: Value) -> bool
+pub fn fits<I: Copy, L: Copy, E: Copy>(
+    field_type: FieldType,
+    arrays: &Arrays<E>,
+    value: Value<I, L>,
+) -> bool
     ensures { result ≡ fits field_type arrays.now value }
 {
     match field_type {
@@ -36,18 +32,12 @@ pub fn fits(field_type: FieldType, arrays: &Arrays, value: Value) -> bool
     }
 }
 
-/// A value of a type as it is stored or returned: bytes, chars and shorts are narrowed, and extended again.
-pub fn stored(field_type: FieldType, value: Value) -> Value
-    ensures { result ≡ stored field_type value }
-{
-    match (field_type, value) {
-        (FieldType::Scalar(kind), Value::Int(number)) => Value::Int(narrowed(kind, number)),
-        _ => value,
-    }
-}
-
 /// Takes the value at the top, which has to be of a type.
-pub fn pop_typed(field_type: FieldType, arrays: &Arrays, stack: &mut Stack) -> Result<Value, Halt>
+pub fn pop_typed<I: Copy, L: Copy, E: Copy>(
+    field_type: FieldType,
+    arrays: &Arrays<E>,
+    stack: &mut Stack<I, L>,
+) -> Result<Value<I, L>, Halt>
     ensures { Gives (λ value. (value, stack.new)) result (pop_typed field_type arrays.now stack.old) }
 {
     let value = stack.pop()?;
@@ -65,11 +55,18 @@ pub struct Place {
     pub field_type: FieldType,
 }
 
+/// Whether a field is static.
+pub fn is_static(field: &Field) -> bool
+    ensures { result ≡ is_static field.now.flags }
+{
+    field.flags & STATIC != 0
+}
+
 /// A field as a static one, if it is static and its type is of the profile.
 fn static_at(field: &Field, at: usize) -> Option<Place>
     ensures { result ≡ static_in field.now at }
 {
-    if field.flags & STATIC == 0 {
+    if !is_static(field) {
         return None;
     }
     let field_type = field_type(field.desc.as_slice())?;
@@ -99,8 +96,8 @@ fn first_static(fields: &[Field], name: &[u8], desc: &[u8]) -> Option<Place>
     static_at(&fields[at], at)
 }
 
-/// The static field of this class that the constant pool names.
-fn static_field(class: &ClassFile, number: u16) -> Option<Place>
+/// The static field of this class that the constant pool names; none exactly where it names no such field.
+pub fn static_field(class: &ClassFile, number: u16) -> Option<Place>
     ensures { result ≡ static_field class.now number }
 {
     let member = field_named(class, number)?;
@@ -117,92 +114,37 @@ fn own_field(class: &ClassFile, member: &Member<'_>) -> Option<Place>
     }
 }
 
-fn field_of(class: &ClassFile, number: u16) -> Result<Place, Halt>
-    ensures { Gives (λ x. x) result (field_of class.now number) }
-{
-    match static_field(class, number) {
-        Some(place) => Ok(place),
-        None => refuse(Reason::UnknownField),
-    }
-}
-
 /// getstatic: pushes the value of a static field.
-pub fn get_static(
+pub fn get_static<I: Copy, L: Copy>(
     class: &ClassFile,
     number: u16,
     depth: u16,
-    statics: &Cells<Value>,
-    stack: &mut Stack,
+    statics: &Cells<Value<I, L>>,
+    stack: &mut Stack<I, L>,
 ) -> Result<(), Halt>
     ensures { Gives (λ _. stack.new) result (get_static class.now number depth statics.now stack.old) }
 {
-    let field = field_of(class, number)?;
+    let Some(field) = static_field(class, number) else {
+        return refuse(Reason::UnknownField);
+    };
     match statics.get(field.at) {
         Some(value) => stack.push(value, depth),
         None => refuse(Reason::UnknownField),
     }
 }
 
-/// putstatic: takes the value of a static field; bytes, chars and shorts are narrowed.
-pub fn put_static(
+/// Takes the value at the top for a static field, which has to be of the field's type.
+pub fn pop_static<I: Copy, L: Copy, E: Copy>(
     class: &ClassFile,
     number: u16,
-    heap: &mut Heap,
-    stack: &mut Stack,
-) -> Result<(), Halt>
-    ensures { Gives (λ _. (heap.new, stack.new)) result (put_static class.now number heap.old stack.old) }
+    arrays: &Arrays<E>,
+    stack: &mut Stack<I, L>,
+) -> Result<(Place, Value<I, L>), Halt>
+    ensures { Gives (λ taken. (taken, stack.new)) result (pop_static class.now number arrays.now stack.old) }
 {
-    let field = field_of(class, number)?;
-    let value = pop_typed(field.field_type, &heap.arrays, stack)?;
-    heap.statics.set(field.at, stored(field.field_type, value));
-    Ok(())
-}
-
-/// 0 or null.
-fn default_value(field_type: FieldType) -> Value
-    ensures { result ≡ default_value field_type }
-{
-    match field_type {
-        FieldType::Scalar(Kind::Long) => Value::Long(0),
-        FieldType::Scalar(_) => Value::Int(0),
-        FieldType::Array(_) => Value::Null,
-    }
-}
-
-/// What a ConstantValue gives a field of a type.
-fn constant_value(field_type: FieldType, constant: Option<&Constant>) -> Value
-    ensures { result ≡ constant_value field_type (option_copied constant.entry) }
-{
-    match (field_type, constant) {
-        (FieldType::Scalar(Kind::Long), Some(Constant::Long(number))) => {
-            Value::Long(number.cast_unsigned())
-        }
-        (FieldType::Scalar(Kind::Long), _) => Value::Long(0),
-        (FieldType::Scalar(kind), Some(Constant::Integer(number))) => {
-            Value::Int(narrowed(kind, number.cast_unsigned()))
-        }
-        _ => default_value(field_type),
-    }
-}
-
-/// The value that a field starts with.
-fn start_value(class: &ClassFile, field: &Field) -> Value
-    ensures { result ≡ start_value class.now.pool field.now }
-{
-    match (field_type(field.desc.as_slice()), field.value) {
-        (None, _) => Value::Null,
-        (Some(field_type), None) => default_value(field_type),
-        (Some(field_type), Some(number)) => constant_value(field_type, class.constant(number)),
-    }
-}
-
-/// Makes the static fields those that a run begins with.
-pub fn start_values(class: &ClassFile, statics: &mut Cells<Value>) -> Result<(), AllocError>
-    ensures { OnOk result (statics.new ≡ start_values class.now) }
-{
-    statics.clear();
-    for field in class.fields() {
-        statics.push(start_value(class, field))?;
-    }
-    Ok(())
+    let Some(field) = static_field(class, number) else {
+        return refuse(Reason::UnknownField);
+    };
+    let value = pop_typed(field.field_type, arrays, stack)?;
+    Ok((field, value))
 }

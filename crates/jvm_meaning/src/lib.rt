@@ -1,54 +1,51 @@
-//! The meaning of a method: one run of its code on one input, by the instructions of the profile (JVM Specification
-//! SE 8, chapter 6).
+//! The meaning of a method: what each instruction of the profile does (JVM Specification SE 8, chapter 6), how a run
+//! of a class's method on an input begins and ends, and where it goes. `specs/` has all of it as definitions, which
+//! read in the order of `specs/Lib.antt`, from the look-ups to `Machine.step`, `Runs.run_end` and `Traces`.
 //!
-//! What a run works on: `value` has values and the ends of a run, `sorts` and `types` what values are told apart by,
-//! `stack`, `cells`, `frame`, `callers`, `arrays`, `heap` and `state` what a state holds, and `stop` why an
-//! instruction doesn't go on. What instructions do: `operation` names them and `table` reads them from the code;
-//! `block` and `stack_moves`, `arithmetic`, `variables`, `branches`, `array_use`, `constants`, `fields`, `calls` and
-//! `returns` have one small function each a family. `step` makes one instruction, with `closing` for returns; `run`
-//! makes a run, from the `arguments` of an input. `walk` makes a run step by step, and `traces` compares where two runs
-//! go. `descriptor` has the shape of a method, and `laws` what follows for all runs.
-//!
-//! `specs/` says the same as definitions, in files of the same names, which read in the order of `specs/Lib.antt`.
+//! The code here is what reads no number: `table` reads instructions, which `operation` names, from the code; `types`,
+//! `constants`, `fields` and `calls` look up what they name; `branches`, `array_use` and `returns` have the parts of
+//! instructions that look at references alone; `moving` makes the steps that only move values, and `steps` those that
+//! open and close frames; `ends` has the ends of a run. All of it is generic in what stands for numbers, so a run and
+//! a symbolic state share it. `laws` has what follows for all runs, and
+//! `beginning` whether a run has a first state.
 #![tactic(auto)]
 
-mod arguments;
-mod arithmetic;
 mod array_use;
-mod arrays;
-mod block;
+mod beginning;
 mod branches;
-mod callers;
 mod calls;
-mod cells;
-mod closing;
 mod constants;
-mod descriptor;
+mod ends;
 mod fields;
-mod frame;
-mod heap;
 mod laws;
+mod moving;
 mod operation;
 mod returns;
-mod run;
-mod sorts;
-mod stack;
-mod stack_moves;
-mod state;
-mod step;
-mod stop;
+mod steps;
 mod table;
-mod traces;
 mod types;
-mod value;
-mod variables;
-mod walk;
 
-pub use descriptor::{ShapeError, shape_of};
+pub use array_use::{element, next_array, pop_array, present};
+pub use beginning::{begins, initialiser_of};
+pub use branches::{Branch, branch_in, jump, taken_if};
+pub use calls::{Callee, begin, callee_in, code_of, desc_of};
+pub use constants::number_in;
+pub use ends::{end_of, refused_at, site_of};
+pub use fields::{Place, fits, is_static, pop_static, pop_typed, static_field};
 pub use laws::{
-    marked_trace_is_what_runs_do, marks_are_all_that_is_made, marks_are_beside, runs_both_ways,
-    same_marks_is_same_deeds, same_trace_is_same_way, trace_is_where_runs_are,
+    ends_stay, goes_with, goes_with_fewer, marked_trace_is_what_runs_do,
+    marks_are_all_that_is_made, marks_are_beside, run_ends_where_it_is, runs_both_ways,
+    same_marks_is_same_deeds, same_trace_is_same_way, shorter_traces, steps_go_on,
+    trace_is_where_runs_are,
 };
-pub use run::Machine;
-pub use traces::same_trace;
-pub use value::{End, Reason, Seen, Throw, Value};
+pub use moving::move_on;
+pub use operation::{
+    ArrayOperation, Binary, Condition, Instruction, Move, Operation, ReferenceTest, Shift,
+    StackOperation, Test, Turn,
+};
+pub use returns::returned;
+pub use steps::{call, resume, start};
+pub use table::instruction_at;
+pub use types::{
+    FieldType, Letter, MethodType, field_type, kind_of, letter_of, method_type, return_type,
+};

@@ -1,25 +1,21 @@
-use crate::block::Span;
-use crate::sorts::{Sort, Width};
-use crate::value::Value;
 use axe_io::Kind;
+use jvm_state::{Sort, Span, Value, Width};
 
 /// What an instruction does (JVM Specification SE 8, section 6.5). Numbers are of local variables and of constants.
 #[derive(Clone, Copy)]
 pub enum Operation {
-    /// nop.
-    Nothing,
+    /// Moves values and looks at no number.
+    Move(Move),
     /// Changes the operands alone.
     Stack(StackOperation),
-    /// Reads or writes a local variable.
-    Local(LocalOperation),
-    /// Goes on elsewhere, by an offset from the branch's opcode.
+    /// iinc: adds a number to a local variable.
+    Increment(u16, i32),
+    /// Goes on elsewhere where a condition holds, by an offset from the branch's opcode.
     Branch(Condition, i32),
     /// Makes, reads or writes an array.
     Array(ArrayOperation),
     /// ldc, ldc_w, ldc2_w: pushes a constant of a width; the opcode is named where it is refused.
     LoadConstant(u8, Width, u16),
-    /// getstatic.
-    GetStatic(u16),
     /// putstatic.
     PutStatic(u16),
     /// invokestatic.
@@ -28,17 +24,36 @@ pub enum Operation {
     Return(Option<Sort>),
 }
 
-/// What is done to the operands alone.
+/// An instruction that moves values and looks at no number.
 #[derive(Clone, Copy)]
-pub enum StackOperation {
-    /// aconst_null, iconst_<i>, lconst_<l>, bipush, sipush.
-    Push(Value),
+pub enum Move {
+    /// nop.
+    Nothing,
+    /// aconst_null.
+    PushNull,
     /// pop, pop2.
     Discard(Span),
-    /// dup, dup2 and their forms: the upper block goes under the lower one.
+    /// dup, dup2 and their forms.
     Duplicate(Span, Span),
     /// swap.
     Swap,
+    /// iload, lload, aload.
+    Load(Sort, u16),
+    /// istore, lstore, astore.
+    Store(Sort, u16),
+    /// getstatic.
+    GetStatic(u16),
+    /// goto, goto_w: goes on elsewhere, by an offset from the opcode.
+    Jump(i32),
+    /// The same where a test of references holds.
+    JumpIf(ReferenceTest, i32),
+}
+
+/// What is done to the operands alone.
+#[derive(Clone, Copy)]
+pub enum StackOperation {
+    /// iconst_<i>, lconst_<l>, bipush, sipush.
+    Push(Value),
     /// add, sub, mul, and, or, xor.
     Binary(Binary, Width),
     /// neg.
@@ -83,17 +98,6 @@ pub enum Turn {
     Right,
 }
 
-/// What is done to a local variable.
-#[derive(Clone, Copy)]
-pub enum LocalOperation {
-    /// iload, lload, aload.
-    Load(Sort, u16),
-    /// istore, lstore, astore.
-    Store(Sort, u16),
-    /// iinc.
-    Increment(u16, i32),
-}
-
 /// What is done with an array.
 #[derive(Clone, Copy)]
 pub enum ArrayOperation {
@@ -110,20 +114,23 @@ pub enum ArrayOperation {
 /// When a branch is taken.
 #[derive(Clone, Copy)]
 pub enum Condition {
-    /// goto, goto_w.
-    Always,
     /// ifeq, ifne, iflt, ifge, ifgt, ifle: an int against 0.
     IfZero(Test),
     /// if_icmpeq, if_icmpne, if_icmplt, if_icmpge, if_icmpgt, if_icmple.
     IfInts(Test),
+}
+
+/// A test of references.
+#[derive(Clone, Copy)]
+pub enum ReferenceTest {
     /// if_acmpeq.
-    IfSame,
+    Same,
     /// if_acmpne.
-    IfNotSame,
+    NotSame,
     /// ifnull.
-    IfNull,
+    Null,
     /// ifnonnull.
-    IfNotNull,
+    NotNull,
 }
 
 /// A test of two signed ints.

@@ -1,20 +1,18 @@
 ghost use Rattle.std.specs.Prelude.{◌≡◌, ◌≤◌, ◌<◌, ◌+◌, ◌^◌, ℕ, ℤ, Option, Some, length, IfOk};
 ghost use Rattle.jvm_meaning.specs.Operations.{int, long, number, constants, loads, stores, moves, arithmetic, branches, new_arrays, calls, operation_of, with_operation, reason_of, instruction_at};
 ghost use Rattle.jvm_meaning.specs.declared.operation.Operation.TheVariants as does;
-ghost use Rattle.jvm_meaning.specs.declared.operation.LocalOperation.TheVariants as local;
+ghost use Rattle.jvm_meaning.specs.declared.operation.Move.TheVariants as moves;
 ghost use Rattle.jvm_meaning.specs.declared.operation.StackOperation.TheVariants as operands;
 
-use crate::block::Span;
 use crate::operation::{
-    ArrayOperation, Binary, Condition, Instruction, LocalOperation, Operation, Shift,
+    ArrayOperation, Binary, Condition, Instruction, Move, Operation, ReferenceTest, Shift,
     StackOperation, Test,
 };
-use crate::sorts::{Sort, Width};
-use crate::value::{Reason, Value};
 use axe_io::Kind;
 use bv_words::chop;
-use class_reader::Code;
+use class_file::Code;
 use jvm_code::{CodeError, Inst, decode};
+use jvm_state::{Reason, Sort, Span, Value, Width};
 
 /// How many bytes of code a method may have (JVM Specification SE 8, section 4.7.3).
 const LONGEST_CODE: usize = 65_535;
@@ -87,6 +85,12 @@ fn stack(operation: StackOperation) -> Option<Operation>
     Some(Operation::Stack(operation))
 }
 
+fn moving(operation: Move) -> Option<Operation>
+    ensures { result ≡ Some (does.Move operation) }
+{
+    Some(Operation::Move(operation))
+}
+
 fn int(number: i32) -> Option<Operation>
     ensures { result ≡ Some (int number) }
 {
@@ -106,15 +110,15 @@ fn constant(op: u8, width: Width, first: i32) -> Option<Operation>
 }
 
 fn load(sort: Sort, at: u16) -> Option<Operation>
-    ensures { result ≡ Some (does.Local (local.Load sort at)) }
+    ensures { result ≡ Some (does.Move (moves.Load sort at)) }
 {
-    Some(Operation::Local(LocalOperation::Load(sort, at)))
+    Some(Operation::Move(Move::Load(sort, at)))
 }
 
 fn store(sort: Sort, at: u16) -> Option<Operation>
-    ensures { result ≡ Some (does.Local (local.Store sort at)) }
+    ensures { result ≡ Some (does.Move (moves.Store sort at)) }
 {
-    Some(Operation::Local(LocalOperation::Store(sort, at)))
+    Some(Operation::Move(Move::Store(sort, at)))
 }
 
 fn array(operation: ArrayOperation) -> Option<Operation>
@@ -147,8 +151,8 @@ fn constants(op: u8, first: i32) -> Option<Operation>
     ensures { result ≡ constants op first }
 {
     match op {
-        0 => Some(Operation::Nothing), // nop
-        1 => stack(StackOperation::Push(Value::Null)), // aconst_null
+        0 => moving(Move::Nothing), // nop
+        1 => moving(Move::PushNull), // aconst_null
         2 => int(-1), // iconst_m1
         3 => int(0), // iconst_0
         4 => int(1), // iconst_1
@@ -233,15 +237,15 @@ fn moves(op: u8) -> Option<Operation>
     ensures { result ≡ moves op }
 {
     match op {
-        87 => stack(StackOperation::Discard(Span::OneSlot)), // pop
-        88 => stack(StackOperation::Discard(Span::TwoSlots)), // pop2
-        89 => stack(StackOperation::Duplicate(Span::OneSlot, Span::NoSlot)), // dup
-        90 => stack(StackOperation::Duplicate(Span::OneSlot, Span::OneSlot)), // dup_x1
-        91 => stack(StackOperation::Duplicate(Span::OneSlot, Span::TwoSlots)), // dup_x2
-        92 => stack(StackOperation::Duplicate(Span::TwoSlots, Span::NoSlot)), // dup2
-        93 => stack(StackOperation::Duplicate(Span::TwoSlots, Span::OneSlot)), // dup2_x1
-        94 => stack(StackOperation::Duplicate(Span::TwoSlots, Span::TwoSlots)), // dup2_x2
-        95 => stack(StackOperation::Swap), // swap
+        87 => moving(Move::Discard(Span::OneSlot)), // pop
+        88 => moving(Move::Discard(Span::TwoSlots)), // pop2
+        89 => moving(Move::Duplicate(Span::OneSlot, Span::NoSlot)), // dup
+        90 => moving(Move::Duplicate(Span::OneSlot, Span::OneSlot)), // dup_x1
+        91 => moving(Move::Duplicate(Span::OneSlot, Span::TwoSlots)), // dup_x2
+        92 => moving(Move::Duplicate(Span::TwoSlots, Span::NoSlot)), // dup2
+        93 => moving(Move::Duplicate(Span::TwoSlots, Span::OneSlot)), // dup2_x1
+        94 => moving(Move::Duplicate(Span::TwoSlots, Span::TwoSlots)), // dup2_x2
+        95 => moving(Move::Swap), // swap
         _ => None,
     }
 }
@@ -272,7 +276,7 @@ fn arithmetic(op: u8, first: i32, second: i32) -> Option<Operation>
         129 => binary(Binary::Or, Width::Long), // lor
         130 => binary(Binary::Xor, Width::Int), // ixor
         131 => binary(Binary::Xor, Width::Long), // lxor
-        132 => Some(Operation::Local(LocalOperation::Increment(number(first), second))), // iinc
+        132 => Some(Operation::Increment(number(first), second)), // iinc
         133 => stack(StackOperation::ToLong), // i2l
         136 => stack(StackOperation::ToInt), // l2i
         145 => stack(StackOperation::Narrow(Kind::Byte)), // i2b
@@ -301,12 +305,12 @@ fn branches(op: u8, first: i32) -> Option<Operation>
         162 => branch(Condition::IfInts(Test::NotLess), first), // if_icmpge
         163 => branch(Condition::IfInts(Test::Greater), first), // if_icmpgt
         164 => branch(Condition::IfInts(Test::NotGreater), first), // if_icmple
-        165 => branch(Condition::IfSame, first), // if_acmpeq
-        166 => branch(Condition::IfNotSame, first), // if_acmpne
-        167 => branch(Condition::Always, first), // goto
-        198 => branch(Condition::IfNull, first), // ifnull
-        199 => branch(Condition::IfNotNull, first), // ifnonnull
-        200 => branch(Condition::Always, first), // goto_w
+        165 => moving(Move::JumpIf(ReferenceTest::Same, first)), // if_acmpeq
+        166 => moving(Move::JumpIf(ReferenceTest::NotSame, first)), // if_acmpne
+        167 => moving(Move::Jump(first)), // goto
+        198 => moving(Move::JumpIf(ReferenceTest::Null, first)), // ifnull
+        199 => moving(Move::JumpIf(ReferenceTest::NotNull, first)), // ifnonnull
+        200 => moving(Move::Jump(first)), // goto_w
         _ => None,
     }
 }
@@ -336,7 +340,7 @@ fn calls(op: u8, first: i32) -> Option<Operation>
         173 => Some(Operation::Return(Some(Sort::Long))), // lreturn
         176 => Some(Operation::Return(Some(Sort::Reference))), // areturn
         177 => Some(Operation::Return(None)), // return
-        178 => Some(Operation::GetStatic(number(first))), // getstatic
+        178 => moving(Move::GetStatic(number(first))), // getstatic
         179 => Some(Operation::PutStatic(number(first))), // putstatic
         184 => Some(Operation::Invoke(number(first))), // invokestatic
         190 => array(ArrayOperation::ArrayLength), // arraylength

@@ -1,8 +1,10 @@
 ghost use Rattle.std.specs.Prelude.{◌<◌, length};
 
 use axe_io::{Input, OutPlace, Shape};
-use class_reader::{ClassFile, MethodId, read_class};
-use jvm_meaning::{End, Machine, Reason, Seen, Throw, shape_of};
+use class_file::{ClassFile, MethodId};
+use class_reader::read_class;
+use jvm_run::{Machine, shape_of};
+use jvm_state::{End, Reason, Seen, Throw};
 use std::alloc::{AllocError, Global};
 
 /// Instructions, open frames and made elements of one run.

@@ -8,6 +8,8 @@ use axe_io::OutPlace;
 use std::io::Write;
 use std::{env, fs, io};
 
+#[cfg(test)]
+mod code_tests;
 mod lines;
 #[cfg(test)]
 mod tests;

@@ -2,7 +2,7 @@
 
 use axe_io::{Budgets, Input, OutPlace};
 use class_reader::read_class;
-use jvm_meaning::{same_trace, shape_of};
+use jvm_run::{same_trace, shape_of};
 use memory::Memory;
 use std::alloc::Global;
 use std::test::Fail;
