@@ -1,11 +1,11 @@
 -- An evaluation, one form deep.
 use Rattle.std.proofs.Common.{◌≡◌, ℕ, zero, suc, ◌-◌, true, false, List, [], ◌∷◌, refl, arith}
 use Rattle.std.specs.Prelude.{Err}
-use Rattle.spec_reader.specs.declared.form.Form.{Form, out-Form}
-use Rattle.spec_reader.specs.declared.form.FormKind.{FormKind}
-use Rattle.spec_reader.specs.declared.form.FormKind.TheOpen.{FormKind-F}
-use Rattle.spec_reader.specs.declared.form.FormKind.TheOpen as kind
-use Rattle.spec_reader.specs.declared.program.Program.{Program}
+use Rattle.spec_form.specs.declared.form.Form.{Form, out-Form}
+use Rattle.spec_form.specs.declared.form.FormKind.{FormKind}
+use Rattle.spec_form.specs.declared.form.FormKind.TheOpen.{FormKind-F}
+use Rattle.spec_form.specs.declared.form.FormKind.TheOpen as kind
+use Rattle.spec_form.specs.declared.program.Program.{Program}
 use Rattle.spec_meaning.specs.declared.value.Value.{Value}
 use Rattle.spec_meaning.specs.declared.stop.Stop.TheVariants as stop
 use Rattle.spec_meaning.specs.Work.{Work}

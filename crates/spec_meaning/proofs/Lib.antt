@@ -3,3 +3,10 @@ pub mod Depths
 pub mod Parts
 pub mod Widths
 pub mod WideSums
+pub mod Plans
+pub mod MoreWork
+pub mod NeverNegative
+pub mod Addresses
+pub mod Walks
+pub mod Children
+pub mod Stops

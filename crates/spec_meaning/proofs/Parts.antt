@@ -3,7 +3,7 @@ use Rattle.std.proofs.Common.{◌≡◌, ℕ, ◌≤◌, List, [], ◌∷◌, �
 use Rattle.std.specs.Prelude.{length, take, drop, Some, Result, Ok, Err}
 use Rattle.std.proofs.lemmas.List.{append_assoc, drop-append-le}
 use Rattle.std.proofs.Math.Seq.{drop-append_seam, take-append_seam}
-use Rattle.spec_reader.specs.declared.form.Form.{Form}
+use Rattle.spec_form.specs.declared.form.Form.{Form}
 use Rattle.spec_meaning.specs.declared.value.Value.{Value}
 use Rattle.spec_meaning.specs.declared.stop.Stop.{Stop}
 use Rattle.spec_meaning.specs.Work.{Work, continued}

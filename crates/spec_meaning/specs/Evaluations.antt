@@ -1,14 +1,14 @@
 -- The evaluation of a form.
 use Rattle.std.specs.Prelude.{ℕ, zero, suc, Bool, true, false, if◌then◌else◌, option_map, List, [], ◌∷◌, ◌++◌, slice_get, Option, Some, None, Result, Ok, Err}
-use Rattle.spec_reader.specs.declared.builtin.Builtin.{Builtin}
-use Rattle.spec_reader.specs.declared.form.Form.{Form, out-Form}
-use Rattle.spec_reader.specs.declared.form.FormKind.{FormKind, out-FormKind}
-use Rattle.spec_reader.specs.declared.form.FormKind.TheOpen.{FormKind-F}
-use Rattle.spec_reader.specs.declared.form.FormKind.TheOpen as kind
-use Rattle.spec_reader.specs.declared.program.Program.{Program}
-use Rattle.spec_reader.specs.declared.program.Function.{Function}
-use Rattle.spec_reader.specs.declared.program.NamedConstant.{NamedConstant}
-use Rattle.spec_reader.specs.declared.program.FunId.{FunId}
+use Rattle.spec_form.specs.declared.builtin.Builtin.{Builtin}
+use Rattle.spec_form.specs.declared.form.Form.{Form, out-Form}
+use Rattle.spec_form.specs.declared.form.FormKind.{FormKind, out-FormKind}
+use Rattle.spec_form.specs.declared.form.FormKind.TheOpen.{FormKind-F}
+use Rattle.spec_form.specs.declared.form.FormKind.TheOpen as kind
+use Rattle.spec_form.specs.declared.program.Program.{Program}
+use Rattle.spec_form.specs.declared.program.Function.{Function}
+use Rattle.spec_form.specs.declared.program.NamedConstant.{NamedConstant}
+use Rattle.spec_form.specs.declared.program.FunId.{FunId}
 use Rattle.spec_meaning.specs.declared.value.Value.{Value}
 use Rattle.spec_meaning.specs.declared.value.Value.TheVariants.{Number, T, List as Numbers}
 use Rattle.spec_meaning.specs.declared.value.Why.{Why}

@@ -8,3 +8,6 @@ pub mod Evaluations
 pub mod Stacks
 pub mod Arguments
 pub mod Visits
+pub mod VisitLaws
+pub mod Varying
+pub mod NumberLaws

@@ -2,9 +2,9 @@
 use Rattle.std.specs.Prelude.{ℕ, zero, suc, ℤ, pos, neg_ℤ, ◌+ℤ◌, ◌-ℤ◌, ◌+◌, ◌-◌, ◌^◌, Bool, true, false, nat_le, nat_lt, int_lt, int_le, bit_and, bit_or, bit_xor, unsigned_abs, if◌then◌else◌, List, [], ◌∷◌, length, map, drop, slice_get, slice_set, Option, Some, None, Result, Ok, Err}
 use Rattle.std.specs.Int.{int_div_euclid, int_rem_euclid}
 use Rattle.std.specs.Ordering.{int_eq}
-use Rattle.bv_words.specs.Words.{chop_wide, cat, sx, neg, bit_not, plus, minus, times, shl, shr, rotate_left, rotate_right}
-use Rattle.spec_reader.specs.declared.builtin.Builtin.{Builtin}
-use Rattle.spec_reader.specs.declared.builtin.Builtin.TheVariants as builtin
+use Rattle.bv_words.specs.Words.{chop_wide, cat, sx, neg, bit_not, plus, minus, times, udiv, urem, shl, shr, rotate_left, rotate_right}
+use Rattle.spec_form.specs.declared.builtin.Builtin.{Builtin}
+use Rattle.spec_form.specs.declared.builtin.Builtin.TheVariants as builtin
 use Rattle.spec_meaning.specs.declared.value.Value.{Value}
 use Rattle.spec_meaning.specs.declared.value.Value.TheVariants.{Number, List as Numbers}
 use Rattle.spec_meaning.specs.declared.value.Why.{Why}
@@ -96,6 +96,8 @@ applied builtin.BvCat (hs ∷ h ∷ ls ∷ l ∷ []) = word_in hs h >>= λ high.
 applied builtin.BvPlus (w ∷ x ∷ y ∷ []) = on_words plus w x y
 applied builtin.BvMinus (w ∷ x ∷ y ∷ []) = on_words minus w x y
 applied builtin.BvMult (w ∷ x ∷ y ∷ []) = on_words times w x y
+applied builtin.BvDiv (w ∷ x ∷ y ∷ []) = on_words (λ w. udiv) w x y
+applied builtin.BvMod (w ∷ x ∷ y ∷ []) = on_words (λ w. urem) w x y
 applied builtin.BvUMinus (w ∷ x ∷ []) = on_word neg w x
 applied builtin.BvAnd (w ∷ x ∷ y ∷ []) = on_words (λ w. bit_and) w x y
 applied builtin.BvOr (w ∷ x ∷ y ∷ []) = on_words (λ w. bit_or) w x y

@@ -3,7 +3,7 @@
 ghost use Rattle.std.specs.Prelude.{◌≡◌, ◌<◌, ◌≤◌, ◌^◌, nat_le, ℕ, pos, IfOk, MatchResult, [], ◌∷◌, ◌++◌, Ok, Err, map, length, slice_get, slice_set, option_copied};
 ghost use Rattle.spec_meaning.specs.declared.value.Value.TheVariants.{List as Numbers};
 ghost use Rattle.spec_meaning.specs.Table.{applied, least_width, place_in, element, written};
-ghost use Rattle.spec_meaning.specs.Checks.{array_length, array};
+ghost use Rattle.spec_meaning.specs.Checks.{array_length, array, from_1_to as from_1_to_of};
 ghost use Rattle.spec_meaning.specs.Faults.{Gives};
 ghost use Rattle.bv_words.specs.Words.{chop_wide as chop_wide_of};
 
@@ -12,16 +12,24 @@ use crate::fault::Fault;
 use crate::operand::Operand;
 use crate::value::Why;
 use bv_words::chop_wide;
-use spec_reader::Builtin;
+use spec_form::Builtin;
 use sqlite_items::Items;
 use std::alloc::{AllocError, Global};
+
+/// The number of elements of an array, from 1 to 65,536; BadWidth exactly where the number is another.
+pub fn length_of(number: i128) -> Result<u32, Why>
+    ensures value { result ≡ from_1_to_of 65536 number }
+    ensures range { IfOk result (λ n. (1 ≤ n) × (n ≤ 65536)) }
+{
+    from_1_to(65536, number)
+}
 
 /// The number of elements of an array.
 fn array_length(len: &Operand) -> Result<u32, Why>
     ensures value { result ≡ array_length len.now }
     ensures range { IfOk result (λ n. (1 ≤ n) × (n ≤ 65536)) }
 {
-    from_1_to(65536, len.number()?)
+    length_of(len.number()?)
 }
 
 /// The elements of an array of so many; BadLength exactly where a list has another number of them.
@@ -42,9 +50,9 @@ fn spans(width: u32, len: u32) -> bool
     len <= 1 << width
 }
 
-/// The least width of an index into an array of so many elements.
+/// The least width of an index into an array of so many elements, at most 16.
 #[tactic(auto, using(crate::proofs::Widths::found, crate::proofs::Widths::next, crate::proofs::Widths::last))]
-fn least_width(len: u32) -> u32
+pub fn least_width(len: u32) -> u32
     ensures value { result ≡ least_width len 0 16 }
     ensures range { result ≤ 16 }
 {
@@ -56,9 +64,10 @@ fn least_width(len: u32) -> u32
     16
 }
 
-/// The place of an index in an array of so many elements, which may lie past its end.
+/// The place of an index in an array of so many elements, which may lie past its end: the index, of any sign, modulo
+/// the least power of two that isn't below their number.
 #[tactic(auto, unfolding(crate::specs::Table::place_in, bv_words::specs::Words::chop_wide))]
-fn place_in(len: u32, index: i128) -> usize
+pub fn place_in(len: u32, index: i128) -> usize
     ensures { result ≡ place_in len index }
 {
     index.rem_euclid(1i128 << least_width(len)) as usize

@@ -1,7 +1,7 @@
 //! What is asked of arguments; each check is its line of `specs/Checks.antt`.
 
 ghost use Rattle.std.specs.Prelude.{◌≡◌, ◌≤◌, ◌<◌, ◌^◌, ℕ, IfOk};
-ghost use Rattle.spec_meaning.specs.Checks.{check as check_of, from_1_to as from_1_to_of, width as width_of, below as below_of, chopped as chopped_of};
+ghost use Rattle.spec_meaning.specs.Checks.{check as check_of, from_1_to as from_1_to_of, width as width_in, below as below_of, chopped as chopped_of};
 
 use crate::operand::Operand;
 use crate::value::Why;
@@ -15,7 +15,7 @@ pub(crate) fn check(holds: bool, why: Why) -> Result<(), Why>
 }
 
 /// A number from 1 to `most`; BadWidth exactly where it is another.
-pub(crate) fn from_1_to(most: u32, number: i128) -> Result<u32, Why>
+pub fn from_1_to(most: u32, number: i128) -> Result<u32, Why>
     ensures value { result ≡ from_1_to_of most number }
     ensures range { IfOk result (λ n. (1 ≤ n) × (n ≤ most)) }
 {
@@ -26,16 +26,24 @@ pub(crate) fn from_1_to(most: u32, number: i128) -> Result<u32, Why>
     }
 }
 
-/// A width from 1 to 64; NotANumber exactly where the value is no number, BadWidth where it is another number.
-pub(crate) fn width(value: &Operand) -> Result<u32, Why>
-    ensures value { result ≡ width_of value.now }
+/// A width from 1 to 64; BadWidth exactly where the number is another.
+pub fn width_of(number: i128) -> Result<u32, Why>
+    ensures value { result ≡ from_1_to_of 64 number }
     ensures range { IfOk result (λ w. (1 ≤ w) × (w ≤ 64)) }
 {
-    from_1_to(64, value.number()?)
+    from_1_to(64, number)
+}
+
+/// A width from 1 to 64; NotANumber exactly where the value is no number, BadWidth where it is another number.
+pub(crate) fn width(value: &Operand) -> Result<u32, Why>
+    ensures value { result ≡ width_in value.now }
+    ensures range { IfOk result (λ w. (1 ≤ w) × (w ≤ 64)) }
+{
+    width_of(value.number()?)
 }
 
 /// A place from 0 on, below `end`; BadPlace exactly where it is another.
-pub(crate) fn below(end: usize, number: i128) -> Result<usize, Why>
+pub fn below(end: usize, number: i128) -> Result<usize, Why>
     ensures value { result ≡ below_of end number }
     ensures range { IfOk result (λ n. n < end) }
 {

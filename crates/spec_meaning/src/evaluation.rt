@@ -1,8 +1,8 @@
 //! The walk over forms.
 
 ghost use Rattle.std.specs.Prelude.{◌≡◌, ◌≤◌, ◌<◌, ◌+◌, ◌-◌, ℕ, IfOk, OnOk, length, vec_len, drop, take, slice_get, Ok, Err, [], ◌∷◌, ◌++◌};
-ghost use Rattle.spec_reader.specs.declared.form.Form.{out-Form};
-ghost use Rattle.spec_reader.specs.declared.form.FormKind.{out-FormKind};
+ghost use Rattle.spec_form.specs.declared.form.Form.{out-Form};
+ghost use Rattle.spec_form.specs.declared.form.FormKind.{out-FormKind};
 ghost use Rattle.spec_meaning.specs.declared.value.Value.TheVariants.{T};
 ghost use Rattle.spec_meaning.specs.declared.fault.Fault.TheVariants.{Cause};
 ghost use Rattle.spec_meaning.specs.Faults.{Gives};
@@ -18,7 +18,7 @@ use crate::stop::Stop;
 use crate::table::apply;
 use crate::value::{SpecEnd, Value, Why};
 use memory::Memory;
-use spec_reader::{Builtin, ConstId, Form, FormKind, FunId, Program};
+use spec_form::{Builtin, ConstId, Form, FormKind, FunId, Program};
 use std::alloc::Global;
 
 /// Where a form is evaluated: how many more forms may be open, and where the variables in scope begin.

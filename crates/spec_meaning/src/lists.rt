@@ -10,7 +10,7 @@ use crate::checks::below;
 use crate::fault::Fault;
 use crate::operand::Operand;
 use crate::value::Why;
-use spec_reader::Builtin;
+use spec_form::Builtin;
 use sqlite_items::Items;
 use std::alloc::Global;
 

@@ -8,7 +8,7 @@ ghost use Rattle.spec_meaning.specs.Checks.{narrow, same, fits};
 
 use crate::operand::Operand;
 use crate::value::Why;
-use spec_reader::Builtin;
+use spec_form::Builtin;
 
 /// Two numbers.
 fn numbers(x: &Operand, y: &Operand) -> Result<(i128, i128), Why>

@@ -63,7 +63,7 @@ impl<'a> Stack<'a> {
 }
 
 /// Adds arguments to a list.
-fn lend_all<'a>(args: &'a [Value], list: &mut Vec<Operand<'a>>) -> Result<(), AllocError>
+pub(crate) fn lend_all<'a>(args: &'a [Value], list: &mut Vec<Operand<'a>>) -> Result<(), AllocError>
     ensures { OnOk result (list.new.items ≡ list.old.items ++ args.now) }
 {
     for arg in args {

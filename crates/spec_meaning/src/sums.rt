@@ -7,7 +7,7 @@ ghost use Rattle.spec_meaning.specs.WideSums.{whole};
 
 use crate::operand::Operand;
 use crate::value::Why;
-use spec_reader::Builtin;
+use spec_form::Builtin;
 
 /// A sum that may leave 128 bits on the way: `low` and `turns` times 2^128.
 #[derive(Clone, Copy)]

@@ -1,6 +1,6 @@
 //! The value of a call of the language.
 
-ghost use Rattle.std.specs.Prelude.{◌≡◌, true, false, [], ◌∷◌};
+ghost use Rattle.std.specs.Prelude.{◌≡◌, true, false, [], ◌∷◌, IfOk};
 ghost use Rattle.spec_meaning.specs.Table.{applied, takes_any};
 ghost use Rattle.spec_meaning.specs.Faults.{Gives};
 
@@ -12,14 +12,31 @@ use crate::numbers::{
     less_or_equal, negation, same_number, zp,
 };
 use crate::operand::Operand;
+use crate::stack::lend_all;
 use crate::sums::sum;
-use crate::value::Why;
+use crate::value::{Value, Why};
 use crate::words::{
-    bvand, bvcat, bvchop, bvif, bvlt, bvminus, bvmult, bvnot, bvor, bvplus, bvshl, bvshr, bvsx,
-    bvuminus, bvxor, getbit, leftrotate, leftrotate32, rightrotate, rightrotate32, slice,
+    bvand, bvcat, bvchop, bvdiv, bvif, bvlt, bvminus, bvmod, bvmult, bvnot, bvor, bvplus, bvshl,
+    bvshr, bvsx, bvuminus, bvxor, getbit, leftrotate, leftrotate32, rightrotate, rightrotate32,
+    slice,
 };
-use spec_reader::Builtin;
+use memory::Memory;
+use spec_form::Builtin;
 use std::alloc::Global;
+
+/// The value of a call of the language at these values, or why it has none: arguments are checked from left to right,
+/// and the first that fails decides.
+pub fn call(alloc: Global, builtin: Builtin, values: &[Value]) -> Result<Result<Value, Why>, Memory>
+    ensures { IfOk result (λ answer. answer ≡ applied builtin values.now) }
+{
+    let mut operands = Vec::new(alloc);
+    lend_all(values, &mut operands)?;
+    match apply(alloc, builtin, &operands) {
+        Ok(value) => Ok(Ok(value.into_value(alloc)?)),
+        Err(Fault::Cause(why)) => Ok(Err(why)),
+        Err(Fault::Memory) => Err(Memory),
+    }
+}
 
 /// The value of a call; its arguments are checked from left to right.
 pub(crate) fn apply<'a>(
@@ -151,6 +168,8 @@ fn of_three<'a>(
         Builtin::BvPlus => plain(bvplus(a, b, c)),
         Builtin::BvMinus => plain(bvminus(a, b, c)),
         Builtin::BvMult => plain(bvmult(a, b, c)),
+        Builtin::BvDiv => plain(bvdiv(a, b, c)),
+        Builtin::BvMod => plain(bvmod(a, b, c)),
         Builtin::BvAnd => plain(bvand(a, b, c)),
         Builtin::BvOr => plain(bvor(a, b, c)),
         Builtin::BvXor => plain(bvxor(a, b, c)),

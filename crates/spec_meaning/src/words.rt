@@ -9,9 +9,9 @@ use crate::operand::Operand;
 use crate::value::Why;
 use bv_words::{
     and, cat, chop_wide, minus, neg, not, or, plus, rotate_left, rotate_right, shl, shr, sx, times,
-    ult, xor,
+    udiv, ult, urem, xor,
 };
-use spec_reader::Builtin;
+use spec_form::Builtin;
 
 /// A width and a word of it.
 fn word_in(w: &Operand, x: &Operand) -> Result<(u32, u64), Why>
@@ -35,7 +35,7 @@ fn words(w: &Operand, x: &Operand, y: &Operand) -> Result<(u32, u64, u64), Why>
 }
 
 /// Two places with `0 <= low <= high <= 63`; BadPlace exactly where they are others.
-fn places(high: i128, low: i128) -> Result<(u32, u32), Why>
+pub fn places(high: i128, low: i128) -> Result<(u32, u32), Why>
     ensures value { result ≡ places high low }
     ensures range { IfOk result (λ p. (p.1 ≤ p.0) × (p.0 ≤ 63)) }
 {
@@ -44,9 +44,9 @@ fn places(high: i128, low: i128) -> Result<(u32, u32), Why>
     Ok((high as u32, low as u32))
 }
 
-/// Bits low to high of any number.
+/// Bits low to high of any number, both included, as a word.
 #[tactic(auto, using(crate::proofs::WordLemmas::shifted_down))]
-fn bits(high: u32, low: u32, x: i128) -> u64
+pub fn bits(high: u32, low: u32, x: i128) -> u64
     requires { (low ≤ high) × (high ≤ 63) }
     ensures { result ≡ bits high low x }
 {
@@ -62,9 +62,9 @@ fn sliced<'a>(high: &Operand<'a>, low: &Operand<'a>, x: &Operand<'a>) -> Result<
     Ok(Operand::of_word(bits(high, low, x.number()?)))
 }
 
-/// An amount of any sign modulo a width.
+/// The amount of a rotation, of any sign, modulo a width.
 #[tactic(auto, unfolding(crate::specs::Table::amount_in))]
-fn amount_in(width: u32, amount: i128) -> u64
+pub fn amount_in(width: u32, amount: i128) -> u64
     requires { (1 ≤ width) × (width ≤ 64) }
     ensures { result ≡ amount_in width amount }
 {
@@ -170,6 +170,28 @@ pub(crate) fn bvmult<'a>(
 {
     let (width, x, y) = words(w, x, y)?;
     Ok(Operand::of_word(times(width, x, y)))
+}
+
+pub(crate) fn bvdiv<'a>(
+    w: &Operand<'a>,
+    x: &Operand<'a>,
+    y: &Operand<'a>,
+) -> Result<Operand<'a>, Why>
+    ensures { result ≡ applied Builtin.BvDiv (w.now ∷ x.now ∷ y.now ∷ []) }
+{
+    let (width, x, y) = words(w, x, y)?;
+    Ok(Operand::of_word(udiv(width, x, y)))
+}
+
+pub(crate) fn bvmod<'a>(
+    w: &Operand<'a>,
+    x: &Operand<'a>,
+    y: &Operand<'a>,
+) -> Result<Operand<'a>, Why>
+    ensures { result ≡ applied Builtin.BvMod (w.now ∷ x.now ∷ y.now ∷ []) }
+{
+    let (width, x, y) = words(w, x, y)?;
+    Ok(Operand::of_word(urem(width, x, y)))
 }
 
 pub(crate) fn bvuminus<'a>(w: &Operand<'a>, x: &Operand<'a>) -> Result<Operand<'a>, Why>

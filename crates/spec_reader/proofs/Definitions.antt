@@ -1,9 +1,9 @@
 -- A program, definition after definition.
 use Rattle.std.proofs.Common.{◌≡◌, ℕ, ◌+◌, ◌<◌, List, ◌∷◌, length, get_or, drop, Result, Ok, refl, sym, ap, ◌∙◌, subst, add-one, drop-cons}
-use Rattle.spec_reader.specs.declared.error.SpecError.{SpecError}
+use Rattle.spec_form.specs.declared.error.SpecError.{SpecError}
 use Rattle.spec_reader.specs.declared.expression.Definition.{Definition}
-use Rattle.spec_reader.specs.declared.form.Form.{Form}
-use Rattle.spec_reader.specs.declared.program.Program.{Program}
+use Rattle.spec_form.specs.declared.form.Form.{Form}
+use Rattle.spec_form.specs.declared.program.Program.{Program}
 use Rattle.spec_reader.specs.Reading.{◌>>=◌, Fails}
 use Rattle.spec_reader.specs.Forms.{Meanings}
 use Rattle.spec_reader.specs.Programs.{defined, added, program_from}

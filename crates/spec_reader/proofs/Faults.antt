@@ -1,7 +1,7 @@
 -- A fault stays the fault of all that is read behind it.
 use Rattle.std.proofs.Common.{Result, refl}
-use Rattle.spec_reader.specs.declared.error.SpecError.{SpecError}
-use Rattle.spec_reader.specs.declared.error.SpecError.TheVariants.{BadToken, Unclosed, BadForm, UnboundName, Duplicate, TooDeep, Memory}
+use Rattle.spec_form.specs.declared.error.SpecError.{SpecError}
+use Rattle.spec_form.specs.declared.error.SpecError.TheVariants.{BadToken, Unclosed, BadForm, UnboundName, Duplicate, TooDeep, Memory}
 use Rattle.spec_reader.specs.Reading.{◌>>=◌, Fails}
 
 pub Fails-bind : {A B : Type 0} (e : SpecError) (r : Result A SpecError) (f : A → Result B SpecError) → Fails e r → Fails e (r >>= f)

@@ -10,3 +10,4 @@ pub mod Meanings
 pub mod Definitions
 pub mod Freshness
 pub mod Bindings
+pub mod Pieces

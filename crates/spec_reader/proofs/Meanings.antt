@@ -24,13 +24,3 @@ known_by false before m known is = or_none before
 
 pub known : (before : Meanings) (name other : List ℕ) (m first : Meaning) → Some first ≡ before name → before other ≡ or_meaning (before other) (cond (bytes_eq name other) (Some m) None)
 known before name other m first is = known_by (bytes_eq name other) (before other) m first (λ same. ap before (sym ((bytes_eq-Decides name other).0 same)) ∙ sym is)
-
--- one definition more
-then_by : (b : Bool) (before rest : Option Meaning) (m : Meaning) → or_meaning (or_meaning before (cond b (Some m) None)) rest ≡ or_meaning before (cond b (Some m) rest)
-then_by true None rest m = refl
-then_by true (Some x) rest m = refl
-then_by false None rest m = refl
-then_by false (Some x) rest m = refl
-
-pub goes_on : (b : Bool) (before rest all after : Option Meaning) (m : Meaning) → after ≡ or_meaning before (cond b (Some m) None) → or_meaning before (cond b (Some m) rest) ≡ all → or_meaning after rest ≡ all
-goes_on b before rest all after m is so_far = ap (λ (o : Option Meaning). or_meaning o rest) is ∙ then_by b before rest m ∙ so_far

@@ -2,7 +2,7 @@
 use Rattle.std.proofs.Common.{◌≡◌, ℕ, List, [], ◌∷◌, ◌++◌, reverse, Some, Err, refl, ap, ◌∙◌}
 use Rattle.std.specs.Prelude.{slice_get}
 use Rattle.std.proofs.lemmas.List.{reverse-append}
-use Rattle.spec_reader.specs.declared.error.SpecError.TheVariants.{Unclosed}
+use Rattle.spec_form.specs.declared.error.SpecError.TheVariants.{Unclosed}
 use Rattle.spec_reader.specs.declared.datum.Datum.{Datum}
 use Rattle.spec_reader.specs.declared.nesting.Level.{Level}
 use Rattle.spec_reader.specs.Nesting.{outermost, finish_levels}

@@ -1,9 +1,9 @@
 -- Variables in scope, and expressions in it.
-use Rattle.std.proofs.Common.{◌≡◌, ℕ, zero, suc, ◌+◌, ◌<◌, ◌≤◌, List, [], ◌∷◌, ◌++◌, length, take, drop, map, get_or, Option, Some, None, Result, Ok, Err, refl, sym, ap, ◌∙◌, subst, append_assoc, add-one, drop-cons, arith}
+use Rattle.std.proofs.Common.{◌≡◌, ℕ, zero, suc, ◌+◌, ◌<◌, ◌≤◌, List, [], ◌∷◌, ◌++◌, length, take, drop, map, get_or, Result, Ok, Err, refl, sym, ap, ◌∙◌, subst, append_assoc, add-one, drop-cons, arith}
 use Rattle.std.proofs.lemmas.List.{drop-drop, length-take, take-append-le}
-use Rattle.spec_reader.specs.declared.error.SpecError.{SpecError}
+use Rattle.spec_form.specs.declared.error.SpecError.{SpecError}
 use Rattle.spec_reader.specs.declared.expression.Expression.{Expression}
-use Rattle.spec_reader.specs.declared.form.Form.{Form}
+use Rattle.spec_form.specs.declared.form.Form.{Form}
 use Rattle.spec_reader.specs.Reading.{◌>>=◌, with_front, Fails}
 use Rattle.spec_reader.proofs.Faults.{Fails-bind}
 use Rattle.std.proofs.Math.ListN.{drop_of_length-le}

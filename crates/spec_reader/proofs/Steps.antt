@@ -1,6 +1,6 @@
 -- Steps of a loop that uses a list up, of which one may fail.
 use Rattle.std.proofs.Common.{◌≡◌, List, length, [], ◌∷◌, Result, Ok, refl, sym, subst, ◌∙◌, arith}
-use Rattle.spec_reader.specs.declared.error.SpecError.{SpecError}
+use Rattle.spec_form.specs.declared.error.SpecError.{SpecError}
 use Rattle.spec_reader.specs.Reading.{◌>>=◌, Fails, steps}
 use Rattle.spec_reader.proofs.Faults.{Fails-bind}
 

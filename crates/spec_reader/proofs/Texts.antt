@@ -2,7 +2,7 @@
 use Rattle.std.proofs.Common.{◌≡◌, ℕ, ◌+◌, ◌<◌, ◌≤◌, List, ◌∷◌, ◌++◌, length, get_or, drop, Result, Ok, Err, refl, sym, ap, ◌∙◌, subst, append_assoc, add-one, drop-cons}
 use Rattle.std.proofs.Math.ListN.{drop_of_length-le}
 use Rattle.std.proofs.lemmas.List.{append-nil}
-use Rattle.spec_reader.specs.declared.error.SpecError.{SpecError}
+use Rattle.spec_form.specs.declared.error.SpecError.{SpecError}
 use Rattle.spec_reader.specs.declared.token.Located.{Located}
 use Rattle.spec_reader.specs.Reading.{◌>>=◌, Fails}
 use Rattle.spec_reader.specs.Tokens.{Lexeme, here, adds, after, tokens_from}

@@ -1,9 +1,9 @@
 -- The functions of the language: their names, and how many arguments they take.
 use Rattle.std.specs.Prelude.{ℕ, Bool, true, ◌&&◌, nat_le, if◌then◌else◌, List, [], ◌∷◌, codes, Option, Some, None}
 use Rattle.std.specs.Str.{bytes_eq}
-use Rattle.spec_reader.specs.declared.builtin.Builtin.{Builtin}
-use Rattle.spec_reader.specs.declared.builtin.Builtin.TheVariants.{BvChop, Slice, GetBit, BvCat, BvPlus, BvMinus, BvMult, BvUMinus, BvAnd, BvOr, BvXor, BvNot, BvLt, BvIf, BvSx, LeftRotate, RightRotate, LeftRotate32, RightRotate32, BvShl, BvShr, BvArrayRead, BvArrayWrite, Sum, Minus, Increment, Decrement, Less, LessOrEqual, Greater, GreaterOrEqual, Zp, SameNumber, Equal, Not, Cons, Append, Cdr, Car, Nth, UpdateNth, Len, Endp, Consp}
-use Rattle.spec_reader.specs.declared.builtin.Builtin.TheVariants as builtin
+use Rattle.spec_form.specs.declared.builtin.Builtin.{Builtin}
+use Rattle.spec_form.specs.declared.builtin.Builtin.TheVariants.{BvChop, Slice, GetBit, BvCat, BvPlus, BvMinus, BvMult, BvDiv, BvMod, BvUMinus, BvAnd, BvOr, BvXor, BvNot, BvLt, BvIf, BvSx, LeftRotate, RightRotate, LeftRotate32, RightRotate32, BvShl, BvShr, BvArrayRead, BvArrayWrite, Sum, Minus, Increment, Decrement, Less, LessOrEqual, Greater, GreaterOrEqual, Zp, SameNumber, Equal, Not, Cons, Append, Cdr, Car, Nth, UpdateNth, Len, Endp, Consp}
+use Rattle.spec_form.specs.declared.builtin.Builtin.TheVariants as builtin
 use Rattle.spec_reader.specs.declared.calls.Call.{Call}
 
 pub record Row : Type 0 where
@@ -30,6 +30,8 @@ word_calls =
     exactly (codes "bvplus") BvPlus 3 ∷
     exactly (codes "bvminus") BvMinus 3 ∷
     exactly (codes "bvmult") BvMult 3 ∷
+    exactly (codes "bvdiv") BvDiv 3 ∷
+    exactly (codes "bvmod") BvMod 3 ∷
     exactly (codes "bvuminus") BvUMinus 2 ∷
     exactly (codes "bvand") BvAnd 3 ∷
     exactly (codes "bvor") BvOr 3 ∷

@@ -3,8 +3,8 @@ use Rattle.std.specs.Prelude.{ℕ, ℤ, Bool, true, false, ◌&&◌, ◌||◌, �
 use Rattle.std.specs.Option.{option_and_then}
 use Rattle.std.specs.List.{list_all}
 use Rattle.std.specs.Str.{bytes_eq}
-use Rattle.spec_reader.specs.declared.error.SpecError.{SpecError}
-use Rattle.spec_reader.specs.declared.error.SpecError.TheVariants.{BadForm}
+use Rattle.spec_form.specs.declared.error.SpecError.{SpecError}
+use Rattle.spec_form.specs.declared.error.SpecError.TheVariants.{BadForm}
 use Rattle.spec_reader.specs.declared.calls.Call.{Call}
 use Rattle.spec_reader.specs.declared.datum.Datum.{Datum}
 use Rattle.spec_reader.specs.declared.datum.Datum.TheOpen.{Datum-F}

@@ -2,8 +2,8 @@
 use Rattle.std.specs.Prelude.{ℕ, ◌+◌, ◌-◌, ◌^◌, min, max, map, Bool, true, false, ◌==◌, if◌then◌else◌, List, [], ◌∷◌, ◌++◌, length, take, drop, Option, Some, None, Result, Ok, Err}
 use Rattle.std.specs.Str.{bytes_eq}
 use Rattle.std.specs.HashMap.{get_by}
-use Rattle.spec_reader.specs.declared.error.SpecError.{SpecError}
-use Rattle.spec_reader.specs.declared.error.SpecError.TheVariants.{BadForm, UnboundName, Duplicate}
+use Rattle.spec_form.specs.declared.error.SpecError.{SpecError}
+use Rattle.spec_form.specs.declared.error.SpecError.TheVariants.{BadForm, UnboundName, Duplicate}
 use Rattle.spec_reader.specs.declared.expression.Literal.{Literal}
 use Rattle.spec_reader.specs.declared.expression.Literal.TheVariants as literal
 use Rattle.spec_reader.specs.declared.expression.Special.{Special}
@@ -13,14 +13,14 @@ use Rattle.spec_reader.specs.declared.expression.Expression.TheOpen.{Expression-
 use Rattle.spec_reader.specs.declared.expression.Expression.TheOpen as expression
 use Rattle.spec_reader.specs.declared.expression.Expression.TheFolds.{fold-Expression}
 use Rattle.spec_reader.specs.declared.expression.Definition.{Definition}
-use Rattle.spec_reader.specs.declared.form.Form.{Form, roll-Form}
-use Rattle.spec_reader.specs.declared.form.FormKind.{FormKind, roll-FormKind}
-use Rattle.spec_reader.specs.declared.form.FormKind.TheOpen.{FormKind-F}
-use Rattle.spec_reader.specs.declared.form.FormKind.TheOpen as kind
+use Rattle.spec_form.specs.declared.form.Form.{Form, roll-Form}
+use Rattle.spec_form.specs.declared.form.FormKind.{FormKind, roll-FormKind}
+use Rattle.spec_form.specs.declared.form.FormKind.TheOpen.{FormKind-F}
+use Rattle.spec_form.specs.declared.form.FormKind.TheOpen as kind
 use Rattle.spec_reader.specs.declared.meaning.Meaning.{Meaning}
 use Rattle.spec_reader.specs.declared.meaning.Names.{Names}
 use Rattle.spec_reader.specs.Reading.{◌>>=◌}
-use Rattle.spec_reader.specs.Names.{are_distinct}
+use Rattle.spec_reader.specs.Names.{is_free, are_distinct}
 use Rattle.spec_reader.specs.Nesting.{deepest}
 
 -- ---- the names of a text
@@ -30,14 +30,18 @@ pub record Entry : Type 0 where
   pub name : List ℕ
   pub meaning : Meaning
 
--- Each definition in text order with its meaning: its number among all, its place among the functions or among
--- the constants, and of a function how many formals it has.
+-- Each definition in text order that may have its name, with its meaning: its number among all, its place among the
+-- functions or among the constants, and of a function how many formals it has. So a name that no definition may have
+-- means nothing, also where a text defines it.
 abbrev pub entry : ℕ → ℕ → Option ℕ → Definition → Entry
 entry number place formals d = record { name = d.name; meaning = record { number = number; place = place; formals = formals } }
 
+abbrev pub if_free : Entry → List Entry → List Entry
+if_free e es = if is_free e.name then e ∷ es else es
+
 abbrev pub entries_by : (ℕ → ℕ → ℕ → List Entry) → ℕ → ℕ → ℕ → Definition → Option (List (List ℕ)) → List Entry
-entries_by rest number functions constants d (Some formals) = entry number functions (Some (length formals)) d ∷ rest (number + 1) (functions + 1) constants
-entries_by rest number functions constants d None = entry number constants None d ∷ rest (number + 1) functions (constants + 1)
+entries_by rest number functions constants d (Some formals) = if_free (entry number functions (Some (length formals)) d) (rest (number + 1) (functions + 1) constants)
+entries_by rest number functions constants d None = if_free (entry number constants None d) (rest (number + 1) functions (constants + 1))
 
 -- of definitions behind so many others, so many functions and so many constants
 abbrev pub entries_from : List Definition → ℕ → ℕ → ℕ → List Entry

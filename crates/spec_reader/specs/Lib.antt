@@ -8,3 +8,4 @@ pub mod Expressions
 pub mod Forms
 pub mod Bindings
 pub mod Programs
+pub mod Spelled

@@ -1,8 +1,8 @@
 -- Parentheses and apostrophes.
 use Rattle.std.specs.Prelude.{ℕ, ◌+◌, max, ℤ, ◌==◌, if◌then◌else◌, List, [], ◌∷◌, ◌++◌, length, map, reverse, Option, Some, None, Result, Ok, Err}
 use Rattle.std.specs.List.{flat_map}
-use Rattle.spec_reader.specs.declared.error.SpecError.{SpecError}
-use Rattle.spec_reader.specs.declared.error.SpecError.TheVariants.{BadForm, Unclosed, TooDeep}
+use Rattle.spec_form.specs.declared.error.SpecError.{SpecError}
+use Rattle.spec_form.specs.declared.error.SpecError.TheVariants.{BadForm, Unclosed, TooDeep}
 use Rattle.spec_reader.specs.declared.token.Token.{Token}
 use Rattle.spec_reader.specs.declared.token.Token.TheVariants as token
 use Rattle.spec_reader.specs.declared.token.Located.{Located}

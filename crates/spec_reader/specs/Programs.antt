@@ -1,18 +1,15 @@
 -- The program that a text spells.
-use Rattle.std.specs.Prelude.{ℕ, ◌+◌, Bool, false, ◌&&◌, ◌==◌, if◌then◌else◌, List, [], ◌∷◌, ◌++◌, length, map, position, Option, Some, None, Result, Ok, Err}
-use Rattle.std.specs.Str.{bytes_eq}
-use Rattle.spec_reader.specs.declared.error.SpecError.{SpecError}
-use Rattle.spec_reader.specs.declared.error.SpecError.TheVariants.{Duplicate}
+use Rattle.std.specs.Prelude.{ℕ, ◌+◌, Bool, false, ◌==◌, if◌then◌else◌, List, [], ◌∷◌, ◌++◌, length, map, Option, Some, None, Result, Ok, Err}
+use Rattle.spec_form.specs.declared.error.SpecError.{SpecError}
+use Rattle.spec_form.specs.declared.error.SpecError.TheVariants.{Duplicate}
 use Rattle.spec_reader.specs.declared.expression.Definition.{Definition}
-use Rattle.spec_reader.specs.declared.form.Form.{Form}
+use Rattle.spec_form.specs.declared.form.Form.{Form}
 use Rattle.spec_reader.specs.declared.meaning.Meaning.{Meaning}
-use Rattle.spec_reader.specs.declared.program.Function.{Function}
-use Rattle.spec_reader.specs.declared.program.Program.{Program}
+use Rattle.spec_form.specs.declared.program.Program.{Program}
 use Rattle.spec_reader.specs.Reading.{◌>>=◌}
-use Rattle.spec_reader.specs.Numbers.{lower}
 use Rattle.spec_reader.specs.Tokens.{tokens_of}
 use Rattle.spec_reader.specs.Nesting.{nested}
-use Rattle.spec_reader.specs.Names.{is_free, are_distinct}
+use Rattle.spec_reader.specs.Names.{are_distinct}
 use Rattle.spec_reader.specs.Expressions.{reading, definitions}
 use Rattle.spec_reader.specs.Forms.{Meanings, count, entries, meaning_of, resolve}
 
@@ -20,9 +17,9 @@ abbrev pub is_number : ℕ → Option Meaning → Bool
 is_number number None = false
 is_number number (Some m) = m.number == number
 
--- a name of no form of the language, which is defined here first
+-- a name that has a meaning, and is defined here first
 abbrev pub may_define : Meanings → ℕ → List ℕ → Bool
-may_define names number name = is_free name && is_number number (names name)
+may_define names number name = is_number number (names name)
 
 -- the body of a function in the scope of its formals; the value of a constant without variables
 abbrev pub body_of : Meanings → Definition → Option (List (List ℕ)) → Result Form SpecError
@@ -58,11 +55,3 @@ definitions_of bytes = do
 -- the program that the bytes spell, or their first fault: that of their definitions, or else of their names
 abbrev pub program_of : List ℕ → Result Program SpecError
 program_of bytes = definitions_of bytes >>= program_with
-
--- two names are one without regard to case
-abbrev pub same_name : List ℕ → List ℕ → Bool
-same_name first second = bytes_eq (map lower first) (map lower second)
-
--- the place of the first function of a name
-abbrev pub function_named : List Function → List ℕ → Option ℕ
-function_named functions name = position (λ f. same_name f.name name) functions

@@ -1,7 +1,7 @@
-ghost use Rattle.std.specs.Prelude.{◌≡◌, option_map};
+ghost use Rattle.std.specs.Prelude.{◌≡◌};
 ghost use Rattle.spec_reader.specs.Calls.{call_in, word_calls, array_calls, number_calls, list_calls, call_named, takes};
 
-use crate::builtin::Builtin;
+use spec_form::Builtin;
 
 /// A function of the language with the numbers of arguments that it takes.
 #[derive(Clone, Copy, Debug, PartialEq, Eq)]
@@ -37,6 +37,8 @@ fn word_call(name: &[u8]) -> Option<Call>
         b"bvplus" => BvPlus 3 Some(3);
         b"bvminus" => BvMinus 3 Some(3);
         b"bvmult" => BvMult 3 Some(3);
+        b"bvdiv" => BvDiv 3 Some(3);
+        b"bvmod" => BvMod 3 Some(3);
         b"bvuminus" => BvUMinus 2 Some(2);
         b"bvand" => BvAnd 3 Some(3);
         b"bvor" => BvOr 3 Some(3);
@@ -128,14 +130,5 @@ impl Call {
         ensures { result ≡ takes self.now count }
     {
         self.least <= count && self.most.is_none_or(|most| count <= most)
-    }
-}
-
-impl Builtin {
-    /// The function that a name in lower case means.
-    pub fn named(name: &[u8]) -> Option<Builtin>
-        ensures { result ≡ option_map (λ call. call.builtin) (call_named name.now) }
-    {
-        call_named(name).map(|call| call.builtin)
     }
 }

@@ -3,11 +3,11 @@ ghost use Rattle.spec_reader.specs.Reading.{Gives, with_front};
 ghost use Rattle.spec_reader.specs.Expressions.{reading, defines, function_named, function_form, constant_named, constant_parts, pair_of, top_form, top_list, definitions};
 
 use crate::datum::Datum;
-use crate::error::SpecError;
 use crate::expression::Definition;
 use crate::names::{are_variables, is_constant, is_defconst, is_defun, is_skipped};
 use crate::parts::{are_preamble, behind_text, name_of, names_of, pair_of, split_last};
 use crate::syntax::{body_behind, expression};
+use spec_form::SpecError;
 use sqlite_items::Items;
 use std::alloc::Global;
 

@@ -1,4 +1,4 @@
-use crate::builtin::Builtin;
+use spec_form::Builtin;
 use sqlite_items::{Boxed, Items};
 
 /// A value that stands in a text.

@@ -7,13 +7,10 @@
 //! `program` puts the steps together, so that the first fault is that of the earliest step.
 #![tactic(auto)]
 
-mod builtin;
 mod calls;
 mod datum;
 mod definition;
-mod error;
 mod expression;
-mod form;
 mod keyword;
 mod meaning;
 mod names;
@@ -26,7 +23,6 @@ mod scope;
 mod syntax;
 mod token;
 
-pub use builtin::Builtin;
-pub use error::SpecError;
-pub use form::{Form, FormKind};
-pub use program::{ConstId, FunId, Function, NamedConstant, Program, read_spec};
+pub use nesting::nested_is_spelled;
+pub use program::read_spec;
+pub use token::tokens_are_spelled;

@@ -1,8 +1,9 @@
-ghost use Rattle.std.specs.Prelude.{◌≡◌, ℕ, List, Some, None, if◌then◌else◌, IfOk, OnOk};
+ghost use Rattle.std.specs.Prelude.{◌≡◌, ℕ, List, Some, None, [], if◌then◌else◌, IfOk, OnOk};
 ghost use Rattle.std.specs.Str.{bytes_eq};
-ghost use Rattle.spec_reader.specs.Forms.{meaning_in, or_meaning, entries, meaning_of};
+ghost use Rattle.spec_reader.specs.Forms.{meaning_in, or_meaning, entries, if_free, meaning_of};
 
 use crate::expression::Definition;
+use crate::names::is_free;
 use std::alloc::{AllocError, Global};
 use std::collections::HashMap;
 
@@ -31,8 +32,19 @@ impl<'a> Names<'a> {
         self.meanings.get(name).copied()
     }
 
-    /// Adds a name, unless it has a meaning.
+    /// Adds a name, unless no definition may have it, or it has a meaning.
     fn add(&mut self, name: &'a [u8], meaning: Meaning) -> Result<(), AllocError>
+        ensures { OnOk result ((other : List ℕ) → meaning_in self.new other ≡ or_meaning (meaning_in self.old other) (meaning_of (if_free (record { name = name.now; meaning = meaning }) []) other)) }
+    {
+        if is_free(name) {
+            self.add_new(name, meaning)
+        } else {
+            Ok(())
+        }
+    }
+
+    /// Adds a name, unless it has a meaning.
+    fn add_new(&mut self, name: &'a [u8], meaning: Meaning) -> Result<(), AllocError>
         ensures { OnOk result ((other : List ℕ) → meaning_in self.new other ≡ or_meaning (meaning_in self.old other) (if bytes_eq name.now other then Some meaning else None)) }
     {
         match self.meaning_of(name) {

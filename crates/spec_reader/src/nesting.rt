@@ -2,11 +2,12 @@ ghost use Rattle.std.specs.Prelude.{◌≡◌, List, Ok, IfOk, OnOk};
 ghost use Rattle.spec_reader.specs.declared.datum.Datum.{Datum};
 ghost use Rattle.spec_reader.specs.declared.token.Located.{Located};
 ghost use Rattle.spec_reader.specs.Reading.{Gives};
-ghost use Rattle.spec_reader.specs.Nesting.{start, state, step, finish, opened, closed, with_mark, with_part, marked, quoted, ended, nested, tokens_of_all};
+ghost use Rattle.spec_reader.specs.Nesting.{start, state, step, finish, opened, closed, with_mark, with_part, marked, quoted, ended, nested};
+ghost use Rattle.spec_reader.specs.Spelled.{NestedIsSpelled};
 
 use crate::datum::Datum;
-use crate::error::SpecError;
 use crate::token::{Located, Token};
+use spec_form::SpecError;
 use sqlite_items::{Boxed, Items};
 use std::alloc::{AllocError, Global};
 use std::mem;
@@ -179,5 +180,5 @@ fn end_marks(
 
 /// The tokens of nested data are those that the data spell.
 pub fn nested_is_spelled()
-    ensures { (ts : List Located) (ds : List Datum) → nested ts ≡ Ok ds → ts ≡ tokens_of_all ds }
+    ensures { NestedIsSpelled }
 {}

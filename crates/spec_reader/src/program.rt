@@ -1,100 +1,20 @@
-ghost use Rattle.std.specs.Prelude.{◌≡◌, ◌≤◌, ◌<◌, length, map, option_map, Some, slice_get, OnOk};
+ghost use Rattle.std.specs.Prelude.{◌≡◌, ◌≤◌, length, map, OnOk};
 ghost use Rattle.spec_reader.specs.Reading.{Gives};
 ghost use Rattle.spec_reader.specs.Expressions.{reading};
 ghost use Rattle.spec_reader.specs.Forms.{meaning_in};
-ghost use Rattle.spec_reader.specs.Programs.{program_of, definitions_of, added, program_with, may_define, body_of, defined, same_name, function_named};
+ghost use Rattle.spec_reader.specs.Programs.{program_of, definitions_of, added, program_with, may_define, body_of, defined};
 
 use crate::definition::definitions;
-use crate::error::SpecError;
 use crate::expression::Definition;
-use crate::form::Form;
 use crate::meaning::{Names, names_of};
-use crate::names::{are_distinct, is_free};
+use crate::names::are_distinct;
 use crate::nesting::nested;
 use crate::resolve::{count, resolve};
 use crate::scope::Scope;
 use crate::token::tokens;
+use spec_form::{Form, Function, NamedConstant, Program, SpecError};
 use sqlite_items::Items;
 use std::alloc::{AllocError, Global};
-
-/// A function by its place among those of a program.
-#[derive(Clone, Copy, Debug, PartialEq, Eq)]
-pub struct FunId(pub usize);
-
-/// A named constant by its place among those of a program.
-#[derive(Clone, Copy, Debug, PartialEq, Eq)]
-pub struct ConstId(pub usize);
-
-/// A function: its name in lower case, the number of its formals, and its body.
-#[derive(Drop)]
-pub struct Function {
-    pub name: Items<u8>,
-    pub formals: u32,
-    pub body: Form,
-}
-
-/// A named constant: its name in lower case, and the expression that is evaluated at each use.
-#[derive(Drop)]
-pub struct NamedConstant {
-    pub name: Items<u8>,
-    pub value: Form,
-}
-
-/// The functions and the constants that a text defines, each in its order.
-#[derive(Drop)]
-pub struct Program {
-    pub functions: Items<Function>,
-    pub constants: Items<NamedConstant>,
-}
-
-impl Program {
-    /// The function of a name, which is read without regard to case; None exactly where no function has it.
-    pub fn function(&self, name: &[u8]) -> Option<FunId>
-        ensures { option_map (λ f. f.0) result ≡ function_named self.now.functions name.now }
-    {
-        position(self.functions.as_slice(), name).map(FunId)
-    }
-
-    /// How many formals a function has.
-    pub fn formals(&self, function: FunId) -> u32
-        requires { function.0 < length self.now.functions }
-        ensures { option_map (λ f. f.formals) (slice_get self.now.functions function.0) ≡ Some result }
-    {
-        self.functions.as_slice()[function.0].formals
-    }
-
-    /// A function's body.
-    pub fn body(&self, function: FunId) -> &Form
-        requires { function.0 < length self.now.functions }
-        ensures { option_map (λ f. f.body) (slice_get self.now.functions function.0) ≡ Some result.now }
-    {
-        &self.functions.as_slice()[function.0].body
-    }
-
-    /// The expression of a named constant.
-    pub fn value_of(&self, constant: ConstId) -> &Form
-        requires { constant.0 < length self.now.constants }
-        ensures { option_map (λ c. c.value) (slice_get self.now.constants constant.0) ≡ Some result.now }
-    {
-        &self.constants.as_slice()[constant.0].value
-    }
-}
-
-/// The place of the first function of a name.
-fn position(functions: &[Function], name: &[u8]) -> Option<usize>
-    ensures { result ≡ function_named functions.now name.now }
-{
-    functions
-        .iter()
-        .position(|function| same_name(function.name.as_slice(), name))
-}
-
-/// Whether two names are one without regard to case.
-fn same_name(first: &[u8], second: &[u8]) -> bool
-    ensures { result ≡ same_name first.now second.now }
-{
-    first.eq_ignore_ascii_case(second)
-}
 
 /// The program that the bytes spell.
 ///
@@ -152,13 +72,10 @@ fn defined<'a>(
     body_of(alloc, names, scope, definition)
 }
 
-/// Whether a name is that of no form of the language, and is defined here first.
+/// Whether a name, which has a meaning only where a definition may have it, is defined here first.
 fn may_define(names: &Names<'_>, number: usize, name: &[u8]) -> bool
     ensures { result ≡ may_define (meaning_in names.now) number name.now }
 {
-    if !is_free(name) {
-        return false;
-    }
     match names.meaning_of(name) {
         Some(meaning) => meaning.number == number,
         None => false,

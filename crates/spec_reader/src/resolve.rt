@@ -2,13 +2,11 @@ ghost use Rattle.std.specs.Prelude.{◌≡◌, ◌-◌, ◌^◌, [], ◌++◌, l
 ghost use Rattle.spec_reader.specs.Reading.{Gives};
 ghost use Rattle.spec_reader.specs.Forms.{meaning_in, count, literal_form, special_kind, form, name_form, constant_form, forms, let_parts, let_form, star_parts, call_form, resolve};
 
-use crate::error::SpecError;
 use crate::expression::{Expression, Literal, Special};
-use crate::form::{Form, FormKind};
 use crate::meaning::{Meaning, Names};
 use crate::names::are_distinct;
-use crate::program::{ConstId, FunId};
 use crate::scope::Scope;
+use spec_form::{ConstId, Form, FormKind, FunId, SpecError};
 use sqlite_items::Items;
 use std::alloc::{AllocError, Global};
 

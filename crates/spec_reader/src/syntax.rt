@@ -5,13 +5,13 @@ ghost use Rattle.spec_reader.specs.Expressions.{reading, expressions, word_expre
 
 use crate::calls::{Call, call_named};
 use crate::datum::Datum;
-use crate::error::SpecError;
 use crate::expression::{Expression, Literal, Special};
 use crate::keyword::{Keyword, keyword_named};
 use crate::parts::{
     are_preamble, binding_of, bindings_of, first_text, literal_of, name_of, only_of, pair_in,
     split_last, word_literal,
 };
+use spec_form::SpecError;
 use sqlite_items::{Boxed, Items};
 use std::alloc::{AllocError, Global};
 

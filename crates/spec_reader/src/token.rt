@@ -1,9 +1,10 @@
 ghost use Rattle.std.specs.Prelude.{◌≡◌, not, ◌&&◌, ◌==◌, false, ◌≤◌, ◌<◌, [], ◌∷◌, length, IfOk, IfSome};
 ghost use Rattle.spec_reader.specs.Reading.{Gives};
+ghost use Rattle.spec_reader.specs.Spelled.{TokensAreSpelled};
 ghost use Rattle.spec_reader.specs.Tokens.{is_white, is_symbol, line_length, symbol_length, string_length, comment_length, is_step, token_of, gives, adds, word_in, hash_lexeme, comment_lexeme, string_lexeme, symbol_lexeme, lexeme, here, tokens_of};
 
-use crate::error::SpecError;
 use crate::number::{begins_like_number, number};
+use spec_form::SpecError;
 use sqlite_items::Items;
 use std::alloc::{AllocError, Global};
 
@@ -270,3 +271,8 @@ fn is_step(word: &[u8]) -> bool
 {
     word == b"1+".as_slice() || word == b"1-".as_slice()
 }
+
+/// The tokens that are read of a text are those that it spells, and a text that spells tokens is read.
+pub fn tokens_are_spelled()
+    ensures { TokensAreSpelled }
+{}

@@ -6,7 +6,8 @@ ghost use Rattle.std.specs.Prelude.{◌<◌, ◌↔◌, length, IsNone, IfSome};
 ghost use Rattle.spec_reader.specs.Reading.{Gives};
 ghost use Rattle.spec_reader.specs.Programs.{program_of};
 
-use spec_reader::{Program, SpecError, read_spec};
+use spec_form::{Program, SpecError};
+use spec_reader::read_spec;
 use std::alloc::Global;
 use std::{env, fs, io};
 

@@ -1,4 +1,4 @@
-use Rattle.std.proofs.Common.{◌≡◌, ℕ, Bool, cond, List, [], ◌∷◌, ◌++◌, length, Option, Some, ◌∙◌, sym, rules}
+use Rattle.std.proofs.Common.{◌≡◌, ℕ, cond, List, [], ◌∷◌, ◌++◌, length, Some, ◌∙◌, rules}
 use Rattle.std.specs.Str.{bytes_eq}
 use Rattle.spec_reader.specs.declared.scope.Binding.{Binding}
 use Rattle.spec_reader.specs.Forms.{place}

@@ -1,4 +1,4 @@
-use Rattle.std.proofs.Common.{◌≡◌, [], ◌∷◌, ◌++◌, sym, subst}
+use Rattle.std.proofs.Common.{◌≡◌, [], ◌∷◌, ◌++◌, subst}
 use Rattle.spec_reader.specs.Bindings.{names_bound, HavePlaces, NoteHidden}
 use Rattle.spec_reader.proofs.Bindings.{last_is_some, places_unbound, notes_unbound}
 use Rattle.spec_reader.proofs.scope.Scope.unbind.Goals as goal

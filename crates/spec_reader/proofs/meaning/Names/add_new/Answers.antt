@@ -1,7 +1,7 @@
 use Rattle.std.proofs.Common.{ℕ, List, Bor}
 use Rattle.spec_reader.specs.Forms.{meaning_in}
 use Rattle.spec_reader.proofs.Meanings.{inserted}
-use Rattle.spec_reader.proofs.meaning.Names.add.Goals as goal
+use Rattle.spec_reader.proofs.meaning.Names.add_new.Goals as goal
 
 pub returns-in_ok-insert-in-None : goal.returns-in_ok-insert-in-None
 returns-in_ok-insert-in-None c other =

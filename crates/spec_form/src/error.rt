@@ -1,5 +1,5 @@
 ghost use Rattle.std.specs.Prelude.{◌≡◌};
-ghost use Rattle.spec_reader.specs.declared.error.SpecError.TheVariants.{Memory};
+ghost use Rattle.spec_form.specs.declared.error.SpecError.TheVariants.{Memory};
 
 use std::alloc::{AllocError, AllocFailed};
 use thiserror::Error;

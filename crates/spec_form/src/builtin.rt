@@ -17,6 +17,10 @@ pub enum Builtin {
     BvMinus,
     /// `(bvmult w x y)`: the product modulo 2^w.
     BvMult,
+    /// `(bvdiv w x y)`: the quotient rounded down, without signs; 0 where y is 0.
+    BvDiv,
+    /// `(bvmod w x y)`: the remainder, without signs; x where y is 0.
+    BvMod,
     /// `(bvuminus w x)`: the negation modulo 2^w.
     BvUMinus,
     /// `(bvand w x y)`: bitwise and.
