@@ -5,18 +5,18 @@ use Rattle.std.proofs.lemmas.Bool.{cases_lt}
 use Rattle.axe_io.specs.Inputs.{IsInput, bits_of, number_of, input_at, AreCounted}
 use Rattle.axe_io.specs.declared.budgets.Budget.{Budget}
 use Rattle.axe_io.specs.declared.budgets.Budget.TheVariants.{Steps, Paths, Frames, Elements, Depth, Work, Nodes, Variables, Settle, Lines, Total}
-use Rattle.class_reader.specs.declared.class.MethodId.{MethodId}
+use Rattle.class_file.specs.declared.class.MethodId.{MethodId}
 use Rattle.spec_meaning.specs.declared.value.Value.{Value}
 use Rattle.spec_meaning.specs.declared.value.SpecEnd.{SpecEnd}
 use Rattle.spec_meaning.specs.declared.value.SpecEnd.TheVariants as evaluation
-use Rattle.jvm_meaning.specs.declared.value.Seen.{Seen}
-use Rattle.jvm_meaning.specs.declared.value.Throw.{Throw}
-use Rattle.jvm_meaning.specs.declared.value.End.{End}
-use Rattle.jvm_meaning.specs.declared.value.End.TheVariants as run
+use Rattle.jvm_meaning.specs.Numbers.{Seen}
+use Rattle.jvm_state.specs.declared.value.Throw.{Throw}
+use Rattle.jvm_meaning.specs.Numbers.{End}
+use Rattle.jvm_state.specs.declared.value.End.TheVariants as run
 use Rattle.job_meaning.specs.declared.shown.Shown.{Shown}
 use Rattle.job_meaning.specs.declared.shown.Shown.TheVariants.{Differs, Refused, Outside, Spends}
 use Rattle.job_meaning.specs.Jobs.{Job, Agrees, widths_of, method_end, spec_end, is_same}
-use Rattle.job_meaning.specs.Trying.{compared, unless_same, thrown, Passes, shown_by, shown_at, tried_from, tried, AgreesBefore, Shows, IsFound}
+use Rattle.job_meaning.specs.Trying.{compared, unless_same, thrown, Passes, IsResult, shown_by, shown_at, tried_from, tried, AgreesBefore, Shows, IsFound, IsShown, ShownIsRight, Settles, IsDecision, TriedIsComplete}
 
 -- ---- the two ends on one input
 
@@ -72,7 +72,7 @@ abbrev EndsShow : End → SpecEnd → Shown → Type 0
 EndsShow end spec (Refused reason method pc) = end ≡ run.Refused reason method pc
 EndsShow end spec (Outside at reason) = spec ≡ evaluation.Outside at reason
 EndsShow end spec (Spends budget) = EndsPass end spec budget
-EndsShow end spec (Differs method value) = (end ≡ method) × (spec ≡ evaluation.Value value) × ((seen : Seen) → end ≡ run.Returned seen → is_same seen value ≡ false)
+EndsShow end spec (Differs method value) = IsResult method × (end ≡ method) × (spec ≡ evaluation.Value value) × ((seen : Seen) → end ≡ run.Returned seen → is_same seen value ≡ false)
 
 moved : (end : End) (spec : SpecEnd) (a b : Shown) → Some a ≡ Some b → EndsShow end spec a → EndsShow end spec b
 moved end spec a b h shows = let e : a ≡ b = cc in subst (EndsShow end spec) e shows
@@ -83,14 +83,14 @@ seen_is a b h = cc
 returned_shows : (seen : Seen) (spec : SpecEnd) (shown : Shown) → compared (unless_same seen) spec ≡ Some shown → EndsShow (run.Returned seen) spec shown
 returned_shows seen (evaluation.Value value) shown h = elim (tested (is_same seen value)) [
   | inl same ↦ absurd (let h' : None ≡ Some shown = rw same at h in cc)
-  | inr differ ↦ moved (run.Returned seen) (evaluation.Value value) _ shown (rw differ at h) (refl, refl, λ other is. let e : seen ≡ other = seen_is seen other is in rw (← e) differ)
+  | inr differ ↦ moved (run.Returned seen) (evaluation.Value value) _ shown (rw differ at h) (tt, refl, refl, λ other is. let e : seen ≡ other = seen_is seen other is in rw (← e) differ)
 ]
 returned_shows seen (evaluation.Outside at why) shown h = moved (run.Returned seen) (evaluation.Outside at why) _ shown h refl
 returned_shows seen evaluation.MoreDepth shown h = moved (run.Returned seen) evaluation.MoreDepth _ shown h refl
 returned_shows seen evaluation.MoreWork shown h = moved (run.Returned seen) evaluation.MoreWork _ shown h refl
 
 throw_shows : (kind : Throw) (method : MethodId) (pc : ℕ) (spec : SpecEnd) (shown : Shown) → compared (thrown kind method pc) spec ≡ Some shown → EndsShow (run.Threw kind method pc) spec shown
-throw_shows kind method pc (evaluation.Value value) shown h = moved (run.Threw kind method pc) (evaluation.Value value) _ shown h (refl, refl, λ seen is. absurd cc)
+throw_shows kind method pc (evaluation.Value value) shown h = moved (run.Threw kind method pc) (evaluation.Value value) _ shown h (tt, refl, refl, λ seen is. absurd cc)
 throw_shows kind method pc (evaluation.Outside at why) shown h = moved (run.Threw kind method pc) (evaluation.Outside at why) _ shown h refl
 throw_shows kind method pc evaluation.MoreDepth shown h = moved (run.Threw kind method pc) evaluation.MoreDepth _ shown h refl
 throw_shows kind method pc evaluation.MoreWork shown h = moved (run.Threw kind method pc) evaluation.MoreWork _ shown h refl
@@ -126,15 +126,23 @@ input_shows job input (Spends budget) h = passed job input budget h
 input_shows job input (Differs end value) h = (
   h.0,
   h.1,
+  h.2,
   λ a.
-      let same : a.value ≡ value = value_is a.value value (sym a.gives ∙ h.1) in
-      let differ : is_same a.seen value ≡ false = h.2 a.seen a.returns in
+      let same : a.value ≡ value = value_is a.value value (sym a.gives ∙ h.2) in
+      let differ : is_same a.seen value ≡ false = h.3 a.seen a.returns in
       let both : true ≡ false = sym a.same ∙ ap (is_same a.seen) same ∙ differ in
       cc,
 )
 
 shown_shows : (job : Job) (input : List ℕ) (shown : Shown) → shown_at job input ≡ Some shown → Shows job input shown
 shown_shows job input shown h = input_shows job input shown (ends_show (method_end job input) (spec_end job input) shown h)
+
+shown_by_cases : (job : Job) (input : List ℕ) (o : Option Shown) → shown_at job input ≡ o → IsShown job input o
+shown_by_cases job input None h = agrees job input h
+shown_by_cases job input (Some shown) h = shown_shows job input shown h
+
+pub shown_right : ShownIsRight
+shown_right job input = shown_by_cases job input (shown_at job input) refl
 
 -- ---- all inputs
 
@@ -189,3 +197,34 @@ right job counted = elim (tried_cases job (2 ^ bits_of (widths_of job)) 0 (2 ^ b
   | inl p ↦ subst (IsFound job) (sym p.1) (λ input is. silent_agrees job (2 ^ bits_of (widths_of job)) input p.0 counted is (counted.below (widths_of job) input is))
   | inr l ↦ loud_is_right job counted (tried_from job (2 ^ bits_of (widths_of job)) 0) l
 ]
+
+-- ---- where each input has a result and a value
+
+moved_result : (a b : End) → a ≡ b → IsResult a → IsResult b
+moved_result a b is r = subst IsResult is r
+
+passes_none : (job : Job) (input : List ℕ) (budget : Budget) → Settles job input → Passes job input budget → ⊥
+passes_none job input Steps s is = moved_result _ _ is s.result
+passes_none job input Frames s is = moved_result _ _ is s.result
+passes_none job input Elements s is = moved_result _ _ is s.result
+passes_none job input Depth s is = let e : evaluation.Value s.value ≡ evaluation.MoreDepth = sym s.gives ∙ is in cc
+passes_none job input Work s is = let e : evaluation.Value s.value ≡ evaluation.MoreWork = sym s.gives ∙ is in cc
+passes_none job input Paths s is = is
+passes_none job input Nodes s is = is
+passes_none job input Variables s is = is
+passes_none job input Settle s is = is
+passes_none job input Lines s is = is
+passes_none job input Total s is = is
+
+first_decides : (job : Job) (input : List ℕ) (shown : Shown) → Settles job input → Shows job input shown → IsDecision (Some (input, shown))
+first_decides job input (Differs end value) s is = tt
+first_decides job input (Refused reason method pc) s is = moved_result _ _ is s.result
+first_decides job input (Outside at reason) s is = let e : evaluation.Value s.value ≡ evaluation.Outside at reason = sym s.gives ∙ is in cc
+first_decides job input (Spends budget) s is = passes_none job input budget s is
+
+complete_by : (job : Job) (o : Option (List ℕ × Shown)) → ((input : List ℕ) → IsInput (widths_of job) input → Settles job input) → IsFound job o → IsDecision o
+complete_by job None all found = tt
+complete_by job (Some (input, shown)) all found = first_decides job input shown (all input found.is_input) found.shows
+
+pub complete : AreCounted → TriedIsComplete
+complete counted job all = complete_by job (tried job) all (right job counted)

@@ -2,20 +2,20 @@
 use Rattle.std.specs.Prelude.{◌≡◌, ℕ, ℤ, pos, Bool, true, false, ◌&&◌, List, [], ◌∷◌}
 use Rattle.std.specs.Ordering.{int_eq}
 use Rattle.axe_io.specs.Shapes.{ShapeParts, leaf_widths}
-use Rattle.class_reader.specs.Contents.{Contents}
-use Rattle.class_reader.specs.declared.class.MethodId.{MethodId}
-use Rattle.spec_reader.specs.declared.program.Program.{Program}
-use Rattle.spec_reader.specs.declared.program.FunId.{FunId}
+use Rattle.class_file.specs.Contents.{Contents}
+use Rattle.class_file.specs.declared.class.MethodId.{MethodId}
+use Rattle.spec_form.specs.declared.program.Program.{Program}
+use Rattle.spec_form.specs.declared.program.FunId.{FunId}
 use Rattle.spec_meaning.specs.declared.value.Value.{Value}
 use Rattle.spec_meaning.specs.declared.value.Value.TheVariants.{Number, List as Numbers}
 use Rattle.spec_meaning.specs.declared.value.SpecEnd.{SpecEnd}
 use Rattle.spec_meaning.specs.declared.value.SpecEnd.TheVariants as evaluation
 use Rattle.spec_meaning.specs.Evaluations.{eval_end}
 use Rattle.spec_meaning.specs.Arguments.{spec_arguments}
-use Rattle.jvm_meaning.specs.declared.value.Seen.{Seen}
-use Rattle.jvm_meaning.specs.declared.value.Seen.TheVariants as observed
-use Rattle.jvm_meaning.specs.declared.value.End.{End}
-use Rattle.jvm_meaning.specs.declared.value.End.TheVariants as run
+use Rattle.jvm_meaning.specs.Numbers.{Seen}
+use Rattle.jvm_state.specs.declared.value.Seen.TheVariants as observed
+use Rattle.jvm_meaning.specs.Numbers.{End}
+use Rattle.jvm_state.specs.declared.value.End.TheVariants as run
 use Rattle.jvm_meaning.specs.Runs.{run_end}
 
 -- a method and a function, the shape of their inputs, and the limits

@@ -1,3 +1,4 @@
 pub mod Jobs
 pub mod Trying
 pub mod Meant
+pub mod Varying

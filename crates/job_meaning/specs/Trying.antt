@@ -3,14 +3,14 @@ use Rattle.std.specs.Prelude.{◌≡◌, ℕ, zero, suc, ◌+◌, ◌^◌, ◌<�
 use Rattle.axe_io.specs.Inputs.{IsInput, bits_of, number_of, input_at}
 use Rattle.axe_io.specs.declared.budgets.Budget.{Budget}
 use Rattle.axe_io.specs.declared.budgets.Budget.TheVariants.{Steps, Frames, Elements, Depth, Work}
-use Rattle.class_reader.specs.declared.class.MethodId.{MethodId}
+use Rattle.class_file.specs.declared.class.MethodId.{MethodId}
 use Rattle.spec_meaning.specs.declared.value.Value.{Value}
 use Rattle.spec_meaning.specs.declared.value.SpecEnd.{SpecEnd}
 use Rattle.spec_meaning.specs.declared.value.SpecEnd.TheVariants as evaluation
-use Rattle.jvm_meaning.specs.declared.value.Seen.{Seen}
-use Rattle.jvm_meaning.specs.declared.value.Throw.{Throw}
-use Rattle.jvm_meaning.specs.declared.value.End.{End}
-use Rattle.jvm_meaning.specs.declared.value.End.TheVariants as run
+use Rattle.jvm_meaning.specs.Numbers.{Seen}
+use Rattle.jvm_state.specs.declared.value.Throw.{Throw}
+use Rattle.jvm_meaning.specs.Numbers.{End}
+use Rattle.jvm_state.specs.declared.value.End.TheVariants as run
 use Rattle.job_meaning.specs.declared.shown.Shown.{Shown}
 use Rattle.job_meaning.specs.declared.shown.Shown.TheVariants.{Differs, Refused, Outside, Spends}
 use Rattle.job_meaning.specs.Jobs.{Job, Agrees, widths_of, method_end, spec_end, is_same}
@@ -74,12 +74,21 @@ Passes job input Depth = spec_end job input ≡ evaluation.MoreDepth
 Passes job input Work = spec_end job input ≡ evaluation.MoreWork
 Passes job input _ = ⊥
 
+-- a run that returned or threw has a result
+abbrev pub IsResult : End → Type 0
+IsResult (run.Returned seen) = Unit {0}
+IsResult (run.Threw kind method pc) = Unit {0}
+IsResult (run.Refused reason method pc) = ⊥
+IsResult run.MoreSteps = ⊥
+IsResult run.MoreFrames = ⊥
+IsResult run.MoreElements = ⊥
+
 -- an input shows this: a refusal, a form without a value, a budget that is passed, or two results that don't agree
 abbrev pub Shows : Job → List ℕ → Shown → Type 0
 Shows job input (Refused reason method pc) = method_end job input ≡ run.Refused reason method pc
 Shows job input (Outside at reason) = spec_end job input ≡ evaluation.Outside at reason
 Shows job input (Spends budget) = Passes job input budget
-Shows job input (Differs end value) = (method_end job input ≡ end) × (spec_end job input ≡ evaluation.Value value) × (Agrees job input → ⊥)
+Shows job input (Differs end value) = IsResult end × (method_end job input ≡ end) × (spec_end job input ≡ evaluation.Value value) × (Agrees job input → ⊥)
 
 -- the first input in counting order on which they don't agree, and what it shows
 pub record IsFirst (job : Job) (input : List ℕ) (shown : Shown) : Type 0 where
@@ -91,3 +100,33 @@ pub record IsFirst (job : Job) (input : List ℕ) (shown : Shown) : Type 0 where
 abbrev pub IsFound : Job → Option (List ℕ × Shown) → Type 0
 IsFound job None = (input : List ℕ) → IsInput (widths_of job) input → Agrees job input
 IsFound job (Some first) = IsFirst job first.0 first.1
+
+-- ---- one input
+
+-- what one input shows is right: that it shows nothing is agreement
+abbrev pub IsShown : Job → List ℕ → Option Shown → Type 0
+IsShown job input None = Agrees job input
+IsShown job input (Some shown) = Shows job input shown
+
+abbrev pub ShownIsRight : Type 0
+ShownIsRight = (job : Job) (input : List ℕ) → IsShown job input (shown_at job input)
+
+-- ---- completeness
+
+-- on an input the run has a result and the evaluation a value
+pub record Settles (job : Job) (input : List ℕ) : Type 0 where
+  pub result : IsResult (method_end job input)
+  pub value : Value
+  pub gives : spec_end job input ≡ evaluation.Value value
+
+-- agreement on all inputs, or two results that don't agree
+abbrev pub IsDecision : Option (List ℕ × Shown) → Type 0
+IsDecision None = Unit {0}
+IsDecision (Some (input, Differs end value)) = Unit {0}
+IsDecision (Some (input, Refused reason method pc)) = ⊥
+IsDecision (Some (input, Outside at reason)) = ⊥
+IsDecision (Some (input, Spends budget)) = ⊥
+
+-- where no input is refused, is outside or passes a budget, trying decides
+abbrev pub TriedIsComplete : Type 0
+TriedIsComplete = (job : Job) → ((input : List ℕ) → IsInput (widths_of job) input → Settles job input) → IsDecision (tried job)

@@ -1,6 +1,6 @@
 use axe_io::{Budgets, Shape};
-use class_reader::{ClassFile, MethodId};
-use spec_reader::{FunId, Program};
+use class_file::{ClassFile, MethodId};
+use spec_form::{FunId, Program};
 
 /// A method of a class and a function of a program, with the shape of their inputs and the limits of a run and of an
 /// evaluation.

@@ -3,12 +3,14 @@ ghost use Rattle.spec_meaning.specs.declared.value.Value.{Value as SpecValue};
 ghost use Rattle.job_meaning.specs.declared.shown.Shown.{Shown as ShownThere};
 ghost use Rattle.job_meaning.specs.Jobs.{Job as MeantJob, is_same, are_numbers};
 ghost use Rattle.job_meaning.specs.Meant.{meant, IsJob};
-ghost use Rattle.job_meaning.specs.Trying.{shown_by, compared, unless_same, value_or_shown, shown_at, tried, IsFound};
+ghost use Rattle.job_meaning.specs.Varying.{VaryingInputsDiffer};
+ghost use Rattle.job_meaning.specs.Trying.{shown_by, compared, unless_same, value_or_shown, shown_at, tried, IsFound, ShownIsRight, TriedIsComplete};
 
 use crate::job::Job;
 use axe_io::{Budget, Input, inputs_are_counted};
-use class_reader::MethodId;
-use jvm_meaning::{End, Machine, Reason, Seen};
+use class_file::MethodId;
+use jvm_run::Machine;
+use jvm_state::{End, Reason, Seen};
 use memory::Memory;
 use spec_meaning::{SpecEnd, Value, Why, args_of, eval};
 use std::alloc::Global;
@@ -161,3 +163,21 @@ pub fn tried_is_right()
 {
     inputs_are_counted();
 }
+
+/// What one input shows is right: nothing exactly where method and function agree on it.
+pub fn shown_is_right()
+    ensures { ShownIsRight }
+{}
+
+/// Trying decides a job on each input of which the run has a result and the evaluation a value: all inputs agree, or
+/// two results differ.
+pub fn tried_is_complete()
+    ensures { TriedIsComplete }
+{
+    inputs_are_counted();
+}
+
+/// Two inputs that vary in the method or in the specification aren't one input.
+pub fn varying_inputs_differ()
+    ensures { VaryingInputsDiffer }
+{}
