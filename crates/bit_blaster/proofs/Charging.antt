@@ -6,7 +6,7 @@ use Rattle.std.proofs.lemmas.Bool.{cases_lt}
 use Rattle.std.proofs.Math.ListN.{get_or-eq_default}
 use Rattle.dag.specs.Node.{when, is_width, node_width, node_charge}
 use Rattle.dag.specs.declared.node.Node.{Node}
-use Rattle.dag.specs.declared.node.Node.TheVariants.{Leaf, Const, Not, And, Or, Xor, Neg, Plus, Times, Eq, Ult, Slt, Ite, Slice, Cat, Sext, Shl, Shr}
+use Rattle.dag.specs.declared.node.Node.TheVariants.{Leaf, Const, Not, And, Or, Xor, Neg, Plus, Times, Eq, Ult, Slt, Ite, Slice, Cat, Sext, Shl, Shr, Udiv, Urem}
 use Rattle.dag.proofs.Bounds.{node_wide}
 use Rattle.dag.proofs.Lists.{snoc_cases}
 use Rattle.std.proofs.lemmas.Bool.{and_parts, ltb-true, leb-true}
@@ -38,6 +38,8 @@ plain_width_is ws (Cat a b) other = refl
 plain_width_is ws (Sext u a) other = refl
 plain_width_is ws (Shl a b) other = refl
 plain_width_is ws (Shr a b) other = refl
+plain_width_is ws (Udiv a b) other = refl
+plain_width_is ws (Urem a b) other = refl
 
 pub wide_at : (ws : List ℕ) (k : ℕ) → AreWide ws → slice_index ws k ≤ 64
 wide_at ws k h = elim (cases_lt k (length ws)) [
@@ -68,6 +70,8 @@ own_wide ws (Cat a b) w h e = node_wide [] ws (Cat a b) w h e
 own_wide ws (Sext u a) w h e = node_wide [] ws (Sext u a) w h e
 own_wide ws (Shl a b) w h e = node_wide [] ws (Shl a b) w h e
 own_wide ws (Shr a b) w h e = node_wide [] ws (Shr a b) w h e
+own_wide ws (Udiv a b) w h e = node_wide [] ws (Udiv a b) w h e
+own_wide ws (Urem a b) w h e = node_wide [] ws (Urem a b) w h e
 
 -- how far a sum of charges has come
 pub record IsSummedTo (total : ℕ) (ws : List ℕ) (so_far : ℕ) (left : List Node) : Type 0 where

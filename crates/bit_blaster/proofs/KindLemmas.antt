@@ -11,6 +11,7 @@ use Rattle.cnf_clauses.specs.Clause.{IsOver}
 use Rattle.bit_blaster.specs.Gates.{HasRoom, bits}
 use Rattle.bit_blaster.specs.Spelling.{spelled, IsSpelled, IsTest, IsConstant}
 use Rattle.bit_blaster.specs.Shifting.{moved_by}
+use Rattle.bit_blaster.specs.Dividing.{IsDivision}
 use Rattle.bit_blaster.specs.Numbers.{bit, number}
 use Rattle.bit_blaster.specs.Circuit.{width_in}
 use Rattle.bit_blaster.specs.NodeBits.{widths, IsNodeBits}
@@ -25,11 +26,12 @@ use Rattle.std.proofs.lemmas.List.{length-append, length-replicate, length-take,
 use Rattle.std.proofs.lemmas.Nat.{pow-add, pow_pos}
 use Rattle.std.proofs.lemmas.Bool.{ltb-true, leb-true, ltb-false, eqb-true, and_parts}
 use Rattle.bit_blaster.proofs.Spells.{over_repeated}
-use Rattle.bv_words.specs.Words.{one_if, plus, chop, times, bit_not, slice, cat, sx, slt, shl, shr}
+use Rattle.bv_words.specs.Words.{one_if, plus, chop, times, bit_not, slice, cat, sx, slt, shl, shr, udiv, urem}
+use Rattle.bv_words.proofs.DivisionLaws.{udiv_is, urem_is}
 use Rattle.bv_words.proofs.CodeLemmas.{neg_nat, sx_low, sx_high}
 use Rattle.dag.specs.Node.{same_width, choice_width, cut_width, joined_width, widened_width, when, is_width}
 use Rattle.dag.specs.declared.node.NodeId.{NodeId}
-use Rattle.dag.specs.declared.node.Node.TheVariants.{Const, Not, And, Or, Xor, Neg, Plus, Times, Eq, Ult, Slt, Ite, Slice, Cat, Sext, Shl, Shr}
+use Rattle.dag.specs.declared.node.Node.TheVariants.{Const, Not, And, Or, Xor, Neg, Plus, Times, Eq, Ult, Slt, Ite, Slice, Cat, Sext, Shl, Shr, Udiv, Urem}
 
 squares_up : (w g : ℕ) → w ≤ g → 1 ≤ w → 3 * w * w + 1 ≤ 4 * (g * g)
 squares_up w g h low = let e : w * w ≤ g * g = mul-le-mul h h in let one : 1 * 1 ≤ w * w = mul-le-mul low low in omega (arith, e, one)
@@ -84,6 +86,26 @@ pub times_node : (old new : Cnf) (rows : List (List Literal)) (a b : NodeId) (ou
     → IsSpelled old new (3 * length (get_or rows a.0 []) * length (get_or rows a.0 [])) (length (get_or rows a.0 [])) out (λ v. (spelled v (get_or rows a.0 []) * spelled v (get_or rows b.0 [])) % 2 ^ length (get_or rows a.0 [])) → IsNodeBits old new rows (Times a b) out
 unfolding times chop
 times_node old new rows a b out at low high s = node_from old new rows (Times a b) out _ _ _ s (rw at (squares_up (length (get_or rows a.0 [])) _ (omega arith) low)) at low high (λ v leaves. rw (at_widths rows a.0, at_numbers v rows a.0, at_numbers v rows b.0) refl) (λ leaves x. tt)
+
+divisions_up : (w g : ℕ) → w ≤ g → 1 ≤ w → 3 * w * w + 4 * w + 1 ≤ 8 * (g * g)
+divisions_up w g h low = let e : w * w ≤ g * g = mul-le-mul h h in let one : w * 1 ≤ w * w = mul-le-mul (le_self w) low in omega (arith, e, one)
+  where
+    le_self : (n : ℕ) → n ≤ n
+    le_self n = omega arith
+
+quotient_spelled : (old new : Cnf) (xs ys q r : List Literal) → IsDivision old new xs ys q r → IsSpelled old new (3 * length xs * length xs + 4 * length xs) (length xs) q (λ v. udiv (spelled v xs) (spelled v ys))
+quotient_spelled old new xs ys q r d = record { grows = d.grows; inside = d.q_in; size = d.q_size; means = λ v m. d.quotient v m ∙ sym (udiv_is (spelled v xs) (spelled v ys)) }
+
+remainder_spelled : (old new : Cnf) (xs ys q r : List Literal) → IsDivision old new xs ys q r → IsSpelled old new (3 * length xs * length xs + 4 * length xs) (length xs) r (λ v. urem (spelled v xs) (spelled v ys))
+remainder_spelled old new xs ys q r d = record { grows = d.grows; inside = d.r_in; size = d.r_size; means = λ v m. d.remainder v m ∙ sym (urem_is (spelled v xs) (spelled v ys)) }
+
+pub udiv_node : (old new : Cnf) (rows : List (List Literal)) (a b : NodeId) (out rest : List Literal) → same_width (slice_get (widths rows) a.0) (slice_get (widths rows) b.0) ≡ Some (length (get_or rows a.0 [])) → 1 ≤ length (get_or rows a.0 []) → length (get_or rows a.0 []) ≤ 64
+    → IsDivision old new (get_or rows a.0 []) (get_or rows b.0 []) out rest → IsNodeBits old new rows (Udiv a b) out
+udiv_node old new rows a b out rest at low high d = node_from old new rows (Udiv a b) out _ _ _ (quotient_spelled _ _ _ _ out rest d) (rw at (divisions_up (length (get_or rows a.0 [])) _ (omega arith) low)) at low high (λ v leaves. rw (at_numbers v rows a.0, at_numbers v rows b.0) refl) (λ leaves x. tt)
+
+pub urem_node : (old new : Cnf) (rows : List (List Literal)) (a b : NodeId) (part out : List Literal) → same_width (slice_get (widths rows) a.0) (slice_get (widths rows) b.0) ≡ Some (length (get_or rows a.0 [])) → 1 ≤ length (get_or rows a.0 []) → length (get_or rows a.0 []) ≤ 64
+    → IsDivision old new (get_or rows a.0 []) (get_or rows b.0 []) part out → IsNodeBits old new rows (Urem a b) out
+urem_node old new rows a b part out at low high d = node_from old new rows (Urem a b) out _ _ _ (remainder_spelled _ _ _ _ part out d) (rw at (divisions_up (length (get_or rows a.0 [])) _ (omega arith) low)) at low high (λ v leaves. rw (at_numbers v rows a.0, at_numbers v rows b.0) refl) (λ leaves x. tt)
 
 pub equal_node : (old new : Cnf) (rows : List (List Literal)) (a b : NodeId) (l : Literal) (out : List Literal) → same_width (slice_get (widths rows) a.0) (slice_get (widths rows) b.0) ≡ Some (length (get_or rows a.0 [])) → 1 ≤ length (get_or rows a.0 []) → IsTest old new (2 * length (get_or rows a.0 [])) l (λ v. nat_eq (spelled v (get_or rows a.0 [])) (spelled v (get_or rows b.0 []))) → out ≡ l ∷ [] → IsNodeBits old new rows (Eq a b) out
 equal_node old new rows a b l out at low t e = node_from old new rows (Eq a b) out _ _ _ (single_spelled _ _ _ l out _ e t) (rw (at, at_widths rows a.0) (omega arith)) (rw at refl) (omega arith) (omega arith) (λ v leaves. same_bit _ ∙ rw (at_numbers v rows a.0, at_numbers v rows b.0) refl) (λ leaves x. tt)

@@ -6,6 +6,7 @@ pub mod Folding
 pub mod Arithmetic
 pub mod Spells
 pub mod ProductLemmas
+pub mod DivisionLemmas
 pub mod ShiftLemmas
 pub mod WireLemmas
 pub mod NodeLemmas

@@ -5,7 +5,7 @@ use Rattle.std.proofs.lemmas.List.{take_all}
 use Rattle.std.proofs.lemmas.Option.{slice_get_within}
 use Rattle.dag.specs.Node.{node_value, word_at}
 use Rattle.dag.specs.declared.node.Node.{Node}
-use Rattle.dag.specs.declared.node.Node.TheVariants.{Leaf, Const, Not, And, Or, Xor, Neg, Plus, Times, Eq, Ult, Slt, Ite, Slice, Cat, Sext, Shl, Shr}
+use Rattle.dag.specs.declared.node.Node.TheVariants.{Leaf, Const, Not, And, Or, Xor, Neg, Plus, Times, Eq, Ult, Slt, Ite, Slice, Cat, Sext, Shl, Shr, Udiv, Urem}
 use Rattle.dag.proofs.Growing.{is_some, node_value_front, word_is}
 use Rattle.bit_blaster.specs.Circuit.{width_in, own_width, AreFitting, IsCircuit, HaveWidths, HaveValues, widths_from, widths_of, values_from, values_of}
 
@@ -29,6 +29,8 @@ value_front input ws ws' vs vs' (Cat a b) h same = node_value_front [] input ws 
 value_front input ws ws' vs vs' (Sext u a) h same = node_value_front [] input ws ws' vs vs' (Sext u a) h same
 value_front input ws ws' vs vs' (Shl a b) h same = node_value_front [] input ws ws' vs vs' (Shl a b) h same
 value_front input ws ws' vs vs' (Shr a b) h same = node_value_front [] input ws ws' vs vs' (Shr a b) h same
+value_front input ws ws' vs vs' (Udiv a b) h same = node_value_front [] input ws ws' vs vs' (Udiv a b) h same
+value_front input ws ws' vs vs' (Urem a b) h same = node_value_front [] input ws ws' vs vs' (Urem a b) h same
 
 dropped_first : (k : ℕ) (xs : List Node) (n : Node) (left : List Node) → drop k xs ≡ n ∷ left → (slice_get xs k ≡ Some n) × (drop (suc k) xs ≡ left)
 dropped_first zero [] n left e = cc

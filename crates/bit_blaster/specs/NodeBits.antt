@@ -3,7 +3,7 @@ use Rattle.std.specs.Prelude.{◌≡◌, ℕ, zero, suc, ◌+◌, ◌-◌, ◌*�
 use Rattle.cnf_clauses.specs.Literal.{Literal}
 use Rattle.cnf_clauses.specs.Formula.{Cnf}
 use Rattle.cnf_clauses.specs.Clause.{IsOver}
-use Rattle.bit_blaster.specs.Gates.{Meets, Agrees, AllOver, Grows}
+use Rattle.bit_blaster.specs.Gates.{Meets, Agrees, AllOver, Grows, HasRoom}
 use Rattle.bit_blaster.specs.Spelling.{spelled}
 use Rattle.bit_blaster.specs.Circuit.{width_in, charge, charges, units, AreFitting, widths_from, widths_of, values_from, values_of, FitsLeaf, FitsLeaves, most_units}
 use Rattle.dag.specs.Node.{node_value}
@@ -45,6 +45,20 @@ pub record IsNodeBits (old new : Cnf) (rows : List (List Literal)) (node : Node)
 abbrev pub AreNarrow : List (List Literal) → Type 0
 AreNarrow [] = Unit {0}
 AreNarrow (r ∷ rs) = (1 ≤ length r) × (length r ≤ 64) × AreNarrow rs
+
+-- rows of nodes: their literals are of the formula's variables
+pub record AreRows (f : Cnf) (rows : List (List Literal)) : Type 0 where
+  pub over : AllOver f.variables rows
+  pub narrow : AreNarrow rows
+
+-- no node takes more variables: a divider of 64 bits takes 12,544, and a product 12,288
+abbrev pub node_room : ℕ
+node_room = 20000
+
+-- all that a node's circuit needs of the formula and the rows before it
+pub record IsReady (f : Cnf) (rows : List (List Literal)) : Type 0 where
+  pub room : HasRoom f node_room
+  pub before : AreRows f rows
 
 -- fresh variables one after another
 abbrev pub fresh_from : ℕ → ℕ → List Literal

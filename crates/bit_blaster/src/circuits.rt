@@ -1,6 +1,6 @@
 //! All nodes of a circuit as one formula.
 
-ghost use Rattle.std.specs.Prelude.{◌≡◌, ◌<◌, ◌≤◌, ◌∷◌, [], false, Some, IfOk, OnOk, IfErr, length, slice_index_or, slice_get};
+ghost use Rattle.std.specs.Prelude.{◌≡◌, ◌+◌, ◌<◌, ◌≤◌, ◌∷◌, [], false, Some, IfOk, OnOk, IfErr, length, slice_index_or, slice_get};
 ghost use Rattle.bit_blaster.specs.Circuit.{IsCircuit, units, most_units};
 ghost use Rattle.bit_blaster.specs.NodeBits.{IsBlasted, BlastFails};
 
@@ -11,6 +11,7 @@ use cnf_clauses::{Formula, Lit, Rows};
 use dag::Node;
 use memory::Memory;
 use std::alloc::{AllocError, Global};
+use thiserror::Error;
 
 /// A circuit as a formula: a row of literals for each node, the lowest bit first.
 #[derive(Drop)]
@@ -22,11 +23,13 @@ pub struct Blasted {
 }
 
 /// Why a circuit isn't made into a formula.
-#[derive(Debug, Drop)]
+#[derive(Debug, Drop, Error)]
 pub enum BlastError {
     /// The charges of its nodes together pass this number of units.
+    #[error("the charges pass {limit} units")]
     TooMany { limit: u32 },
     /// Memory is wanting.
+    #[error("out of memory")]
     Memory,
 }
 
@@ -61,13 +64,15 @@ pub fn blast(alloc: Global, nodes: &[Node]) -> Result<Blasted, BlastError>
             rows: Rows::new(alloc),
         });
     }
-    Ok(blast_some(alloc, nodes)?)
+    Ok(blast_affordable(alloc, nodes)?)
 }
 
-/// The formula of a circuit of at least one node.
-fn blast_some(alloc: Global, nodes: &[Node]) -> Result<Blasted, Memory>
+/// Makes a formula of a circuit of at least one node, as [`blast`] does, where its charges are known to be few enough.
+/// They may pass the limit by 256 units, what one node beside those that are counted costs at most unless it is a
+/// product or a shift.
+pub fn blast_affordable(alloc: Global, nodes: &[Node]) -> Result<Blasted, Memory>
     requires fits { IsCircuit nodes.now }
-    requires few { units nodes.now ≤ most_units }
+    requires few { units nodes.now ≤ most_units + 256 }
     requires some { 1 ≤ length nodes.now }
     ensures { IfOk result (λ b. IsBlasted b.formula b.rows nodes.now) }
 {

@@ -2,12 +2,12 @@
 
 ghost use Rattle.std.specs.Prelude.{◌≡◌, ◌+◌, ◌<◌, ◌≤◌, ◌^◌, [], IfOk, IsSome, length, slice_get, slice_index_or};
 ghost use Rattle.cnf_clauses.specs.Clause.{IsOver};
-ghost use Rattle.bit_blaster.specs.Gates.{HasRoom, AllOver};
 ghost use Rattle.bit_blaster.specs.Circuit.{width_in};
-ghost use Rattle.bit_blaster.specs.NodeBits.{IsNodeBits, IsFresh, AreNarrow, widths};
+ghost use Rattle.bit_blaster.specs.NodeBits.{IsNodeBits, IsFresh, AreRows, IsReady, widths};
 ghost use Rattle.dag.specs.Node.{same_width, test_width, choice_width, cut_width, joined_width, widened_width, shifted_width};
 
 use crate::constants::constants;
+use crate::division::division;
 use crate::plain::fresh;
 use crate::products::times;
 use crate::shifts::shifted;
@@ -21,8 +21,7 @@ use std::alloc::Global;
 /// The row of a child.
 #[tactic(auto, using(crate::proofs::NodeLemmas::over_row, crate::proofs::NodeLemmas::low_row, crate::proofs::NodeLemmas::high_row, crate::proofs::NodeLemmas::there_row))]
 fn one<'a>(f: &Formula, rows: &'a Rows<Lit>, a: NodeId) -> &'a [Lit]
-    requires over { AllOver f.now.variables rows.now }
-    requires narrow { AreNarrow rows.now }
+    requires rows { AreRows f.now rows.now }
     requires there { IsSome (slice_get (widths rows.now) a.0) }
     ensures is { result.now ≡ slice_index_or rows.now a.0 [] }
     ensures inside { IsOver f.now.variables result.now }
@@ -35,8 +34,7 @@ fn one<'a>(f: &Formula, rows: &'a Rows<Lit>, a: NodeId) -> &'a [Lit]
 
 /// The rows of two children of one width.
 fn two<'a>(f: &Formula, rows: &'a Rows<Lit>, a: NodeId, b: NodeId) -> (&'a [Lit], &'a [Lit])
-    requires over { AllOver f.now.variables rows.now }
-    requires narrow { AreNarrow rows.now }
+    requires rows { AreRows f.now rows.now }
     requires fits { IsSome (same_width (slice_get (widths rows.now) a.0) (slice_get (widths rows.now) b.0)) }
     ensures first { result.0.now ≡ slice_index_or rows.now a.0 [] }
     ensures second { result.1.now ≡ slice_index_or rows.now b.0 [] }
@@ -57,9 +55,7 @@ fn and_bits(
     a: NodeId,
     b: NodeId,
 ) -> Result<Vec<Lit>, Memory>
-    requires room { HasRoom f.old 20000 }
-    requires over { AllOver f.old.variables rows.now }
-    requires narrow { AreNarrow rows.now }
+    requires ready { IsReady f.old rows.now }
     requires fits { IsSome (same_width (slice_get (widths rows.now) a.0) (slice_get (widths rows.now) b.0)) }
     ensures { IfOk result (λ r. IsNodeBits f.old f.new rows.now (Node.And a b) r.items) }
 {
@@ -75,9 +71,7 @@ fn or_bits(
     a: NodeId,
     b: NodeId,
 ) -> Result<Vec<Lit>, Memory>
-    requires room { HasRoom f.old 20000 }
-    requires over { AllOver f.old.variables rows.now }
-    requires narrow { AreNarrow rows.now }
+    requires ready { IsReady f.old rows.now }
     requires fits { IsSome (same_width (slice_get (widths rows.now) a.0) (slice_get (widths rows.now) b.0)) }
     ensures { IfOk result (λ r. IsNodeBits f.old f.new rows.now (Node.Or a b) r.items) }
 {
@@ -93,9 +87,7 @@ fn xor_bits(
     a: NodeId,
     b: NodeId,
 ) -> Result<Vec<Lit>, Memory>
-    requires room { HasRoom f.old 20000 }
-    requires over { AllOver f.old.variables rows.now }
-    requires narrow { AreNarrow rows.now }
+    requires ready { IsReady f.old rows.now }
     requires fits { IsSome (same_width (slice_get (widths rows.now) a.0) (slice_get (widths rows.now) b.0)) }
     ensures { IfOk result (λ r. IsNodeBits f.old f.new rows.now (Node.Xor a b) r.items) }
 {
@@ -111,9 +103,7 @@ fn plus_bits(
     a: NodeId,
     b: NodeId,
 ) -> Result<Vec<Lit>, Memory>
-    requires room { HasRoom f.old 20000 }
-    requires over { AllOver f.old.variables rows.now }
-    requires narrow { AreNarrow rows.now }
+    requires ready { IsReady f.old rows.now }
     requires fits { IsSome (same_width (slice_get (widths rows.now) a.0) (slice_get (widths rows.now) b.0)) }
     ensures { IfOk result (λ r. IsNodeBits f.old f.new rows.now (Node.Plus a b) r.items) }
 {
@@ -129,14 +119,44 @@ fn times_bits(
     a: NodeId,
     b: NodeId,
 ) -> Result<Vec<Lit>, Memory>
-    requires room { HasRoom f.old 20000 }
-    requires over { AllOver f.old.variables rows.now }
-    requires narrow { AreNarrow rows.now }
+    requires ready { IsReady f.old rows.now }
     requires fits { IsSome (same_width (slice_get (widths rows.now) a.0) (slice_get (widths rows.now) b.0)) }
     ensures { IfOk result (λ r. IsNodeBits f.old f.new rows.now (Node.Times a b) r.items) }
 {
     let (xs, ys) = two(f, rows, a, b);
     let out = times(alloc, f, xs, ys)?;
+    Ok(out)
+}
+
+fn udiv_bits(
+    alloc: Global,
+    f: &mut Formula,
+    rows: &Rows<Lit>,
+    a: NodeId,
+    b: NodeId,
+) -> Result<Vec<Lit>, Memory>
+    requires ready { IsReady f.old rows.now }
+    requires fits { IsSome (same_width (slice_get (widths rows.now) a.0) (slice_get (widths rows.now) b.0)) }
+    ensures { IfOk result (λ r. IsNodeBits f.old f.new rows.now (Node.Udiv a b) r.items) }
+{
+    let (xs, ys) = two(f, rows, a, b);
+    let (out, _) = division(alloc, f, xs, ys)?;
+    Ok(out)
+}
+
+fn urem_bits(
+    alloc: Global,
+    f: &mut Formula,
+    rows: &Rows<Lit>,
+    a: NodeId,
+    b: NodeId,
+) -> Result<Vec<Lit>, Memory>
+    requires ready { IsReady f.old rows.now }
+    requires fits { IsSome (same_width (slice_get (widths rows.now) a.0) (slice_get (widths rows.now) b.0)) }
+    ensures { IfOk result (λ r. IsNodeBits f.old f.new rows.now (Node.Urem a b) r.items) }
+{
+    let (xs, ys) = two(f, rows, a, b);
+    let (_, out) = division(alloc, f, xs, ys)?;
     Ok(out)
 }
 
@@ -147,9 +167,7 @@ fn equal_bits(
     a: NodeId,
     b: NodeId,
 ) -> Result<Vec<Lit>, Memory>
-    requires room { HasRoom f.old 20000 }
-    requires over { AllOver f.old.variables rows.now }
-    requires narrow { AreNarrow rows.now }
+    requires ready { IsReady f.old rows.now }
     requires fits { IsSome (test_width (same_width (slice_get (widths rows.now) a.0) (slice_get (widths rows.now) b.0))) }
     ensures { IfOk result (λ r. IsNodeBits f.old f.new rows.now (Node.Eq a b) r.items) }
 {
@@ -165,9 +183,7 @@ fn ult_bits(
     a: NodeId,
     b: NodeId,
 ) -> Result<Vec<Lit>, Memory>
-    requires room { HasRoom f.old 20000 }
-    requires over { AllOver f.old.variables rows.now }
-    requires narrow { AreNarrow rows.now }
+    requires ready { IsReady f.old rows.now }
     requires fits { IsSome (test_width (same_width (slice_get (widths rows.now) a.0) (slice_get (widths rows.now) b.0))) }
     ensures { IfOk result (λ r. IsNodeBits f.old f.new rows.now (Node.Ult a b) r.items) }
 {
@@ -183,9 +199,7 @@ fn slt_bits(
     a: NodeId,
     b: NodeId,
 ) -> Result<Vec<Lit>, Memory>
-    requires room { HasRoom f.old 20000 }
-    requires over { AllOver f.old.variables rows.now }
-    requires narrow { AreNarrow rows.now }
+    requires ready { IsReady f.old rows.now }
     requires fits { IsSome (test_width (same_width (slice_get (widths rows.now) a.0) (slice_get (widths rows.now) b.0))) }
     ensures { IfOk result (λ r. IsNodeBits f.old f.new rows.now (Node.Slt a b) r.items) }
 {
@@ -195,9 +209,7 @@ fn slt_bits(
 }
 
 fn not_bits(alloc: Global, f: &mut Formula, rows: &Rows<Lit>, a: NodeId) -> Result<Vec<Lit>, Memory>
-    requires room { HasRoom f.old 20000 }
-    requires over { AllOver f.old.variables rows.now }
-    requires narrow { AreNarrow rows.now }
+    requires ready { IsReady f.old rows.now }
     requires fits { IsSome (slice_get (widths rows.now) a.0) }
     ensures { IfOk result (λ r. IsNodeBits f.old f.new rows.now (Node.Not a) r.items) }
 {
@@ -206,9 +218,7 @@ fn not_bits(alloc: Global, f: &mut Formula, rows: &Rows<Lit>, a: NodeId) -> Resu
 }
 
 fn neg_bits(alloc: Global, f: &mut Formula, rows: &Rows<Lit>, a: NodeId) -> Result<Vec<Lit>, Memory>
-    requires room { HasRoom f.old 20000 }
-    requires over { AllOver f.old.variables rows.now }
-    requires narrow { AreNarrow rows.now }
+    requires ready { IsReady f.old rows.now }
     requires fits { IsSome (slice_get (widths rows.now) a.0) }
     ensures { IfOk result (λ r. IsNodeBits f.old f.new rows.now (Node.Neg a) r.items) }
 {
@@ -224,9 +234,7 @@ fn shl_bits(
     a: NodeId,
     b: NodeId,
 ) -> Result<Vec<Lit>, Memory>
-    requires room { HasRoom f.old 20000 }
-    requires over { AllOver f.old.variables rows.now }
-    requires narrow { AreNarrow rows.now }
+    requires ready { IsReady f.old rows.now }
     requires fits { IsSome (shifted_width (slice_get (widths rows.now) a.0) (slice_get (widths rows.now) b.0)) }
     ensures { IfOk result (λ r. IsNodeBits f.old f.new rows.now (Node.Shl a b) r.items) }
 {
@@ -243,9 +251,7 @@ fn shr_bits(
     a: NodeId,
     b: NodeId,
 ) -> Result<Vec<Lit>, Memory>
-    requires room { HasRoom f.old 20000 }
-    requires over { AllOver f.old.variables rows.now }
-    requires narrow { AreNarrow rows.now }
+    requires ready { IsReady f.old rows.now }
     requires fits { IsSome (shifted_width (slice_get (widths rows.now) a.0) (slice_get (widths rows.now) b.0)) }
     ensures { IfOk result (λ r. IsNodeBits f.old f.new rows.now (Node.Shr a b) r.items) }
 {
@@ -263,9 +269,7 @@ fn ite_bits(
     b: NodeId,
     c: NodeId,
 ) -> Result<Vec<Lit>, Memory>
-    requires room { HasRoom f.old 20000 }
-    requires over { AllOver f.old.variables rows.now }
-    requires narrow { AreNarrow rows.now }
+    requires ready { IsReady f.old rows.now }
     requires fits { IsSome (choice_width (slice_get (widths rows.now) a.0) (same_width (slice_get (widths rows.now) b.0) (slice_get (widths rows.now) c.0))) }
     ensures { IfOk result (λ r. IsNodeBits f.old f.new rows.now (Node.Ite a b c) r.items) }
 {
@@ -283,9 +287,7 @@ fn slice_bits(
     low: u32,
     a: NodeId,
 ) -> Result<Vec<Lit>, Memory>
-    requires room { HasRoom f.old 20000 }
-    requires over { AllOver f.old.variables rows.now }
-    requires narrow { AreNarrow rows.now }
+    requires ready { IsReady f.old rows.now }
     requires fits { IsSome (cut_width high low (slice_get (widths rows.now) a.0)) }
     ensures { IfOk result (λ r. IsNodeBits f.old f.new rows.now (Node.Slice high low a) r.items) }
 {
@@ -300,9 +302,7 @@ fn cat_bits(
     a: NodeId,
     b: NodeId,
 ) -> Result<Vec<Lit>, Memory>
-    requires room { HasRoom f.old 20000 }
-    requires over { AllOver f.old.variables rows.now }
-    requires narrow { AreNarrow rows.now }
+    requires ready { IsReady f.old rows.now }
     requires fits { IsSome (joined_width (slice_get (widths rows.now) a.0) (slice_get (widths rows.now) b.0)) }
     ensures { IfOk result (λ r. IsNodeBits f.old f.new rows.now (Node.Cat a b) r.items) }
 {
@@ -318,9 +318,7 @@ fn sext_bits(
     width: u32,
     a: NodeId,
 ) -> Result<Vec<Lit>, Memory>
-    requires room { HasRoom f.old 20000 }
-    requires over { AllOver f.old.variables rows.now }
-    requires narrow { AreNarrow rows.now }
+    requires ready { IsReady f.old rows.now }
     requires fits { IsSome (widened_width width (slice_get (widths rows.now) a.0)) }
     ensures { IfOk result (λ r. IsNodeBits f.old f.new rows.now (Node.Sext width a) r.items) }
 {
@@ -349,9 +347,7 @@ pub fn node_bits(
     rows: &Rows<Lit>,
     node: Node,
 ) -> Result<Vec<Lit>, Memory>
-    requires room { HasRoom f.old 20000 }
-    requires over { AllOver f.old.variables rows.now }
-    requires narrow { AreNarrow rows.now }
+    requires ready { IsReady f.old rows.now }
     requires fits { IsSome (width_in (widths rows.now) node) }
     ensures { IfOk result (λ r. IsNodeBits f.old f.new rows.now node r.items) }
 {
@@ -376,6 +372,8 @@ pub fn node_bits(
         Node::Sext { width, a } => sext_bits(alloc, f, rows, width, a),
         Node::Shl(a, b) => shl_bits(alloc, f, rows, a, b),
         Node::Shr(a, b) => shr_bits(alloc, f, rows, a, b),
+        Node::Udiv(a, b) => udiv_bits(alloc, f, rows, a, b),
+        Node::Urem(a, b) => urem_bits(alloc, f, rows, a, b),
         Node::Const { width, value } => {
             let out = constants(alloc, width, value)?;
             Ok(out)

@@ -9,7 +9,7 @@
 //! - `plain`: a fresh variable with the clauses that tie it to its operands; `constants`: the two constant literals
 //! - `gates`: the same where no constant and no literal that stands there already will do
 //! - `cells`: one bit of each word operation, and the ripple that joins cells to words
-//! - `wires`: what costs nothing; `words`, `products`, `shifts`: operations on words
+//! - `wires`: what costs nothing; `words`, `products`, `shifts`, `division`: operations on words
 //! - `kinds`: the bits of a node by its kind; `charges`: the sum of charges; `circuits`: the loop over a circuit
 //!
 //! `specs/Circuit.antt` says what a circuit and its values are, `specs/NodeBits.antt` what a formula stands for.
@@ -19,14 +19,14 @@ mod cells;
 mod charges;
 mod circuits;
 mod constants;
+mod division;
 mod gates;
 mod kinds;
 mod plain;
 mod products;
 mod shifts;
-#[cfg(test)]
-mod tests;
 mod wires;
 mod words;
 
-pub use circuits::{BlastError, Blasted, blast};
+pub use charges::{MOST_UNITS, is_affordable};
+pub use circuits::{BlastError, Blasted, blast, blast_affordable};

@@ -6,6 +6,7 @@ ghost use Rattle.cnf_clauses.specs.Clause.{IsOver};
 ghost use Rattle.bit_blaster.specs.Gates.{HasRoom};
 ghost use Rattle.bit_blaster.specs.Numbers.{bit};
 ghost use Rattle.bit_blaster.specs.Spelling.{IsSpelled, spelled};
+ghost use Rattle.bit_blaster.specs.NodeBits.{node_room};
 
 use crate::cells::Cell;
 use crate::constants::constant;
@@ -52,7 +53,7 @@ fn row_added(
 }
 
 pub fn times(alloc: Global, f: &mut Formula, xs: &[Lit], ys: &[Lit]) -> Result<Vec<Lit>, Memory>
-    requires room { HasRoom f.old 20000 }
+    requires room { HasRoom f.old node_room }
     requires low { 1 ≤ length xs.now }
     requires high { length xs.now ≤ 64 }
     requires xs_in { IsOver f.old.variables xs.now }

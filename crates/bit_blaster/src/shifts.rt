@@ -6,6 +6,7 @@ ghost use Rattle.cnf_clauses.specs.Clause.{IsOver};
 ghost use Rattle.bit_blaster.specs.Gates.{HasRoom, Meets};
 ghost use Rattle.bit_blaster.specs.Spelling.{IsSpelled, spelled};
 ghost use Rattle.bit_blaster.specs.Shifting.{IsMoved, IsStage, moved_by};
+ghost use Rattle.bit_blaster.specs.NodeBits.{node_room};
 
 use crate::constants::constant;
 use crate::gates;
@@ -74,7 +75,7 @@ pub fn shifted(
     xs: &[Lit],
     ys: &[Lit],
 ) -> Result<Vec<Lit>, Memory>
-    requires room { HasRoom f.old 20000 }
+    requires room { HasRoom f.old node_room }
     requires xs_in { IsOver f.old.variables xs.now }
     requires ys_in { IsOver f.old.variables ys.now }
     requires low { 1 ≤ length xs.now }

@@ -6,6 +6,7 @@ ghost use Rattle.cnf_clauses.specs.Clause.{IsOver};
 ghost use Rattle.bit_blaster.specs.Gates.{HasRoom};
 ghost use Rattle.bit_blaster.specs.Spelling.{IsSpelled, IsTest, spelled};
 ghost use Rattle.bv_words.specs.Words.{slt};
+ghost use Rattle.bit_blaster.specs.NodeBits.{node_room};
 
 use crate::gates;
 use crate::words::{below, repeated};
@@ -51,7 +52,7 @@ pub fn single(alloc: Global, l: Lit) -> Result<Vec<Lit>, Memory>
 }
 
 pub fn signed_below(alloc: Global, f: &mut Formula, xs: &[Lit], ys: &[Lit]) -> Result<Lit, Memory>
-    requires room { HasRoom f.old 20000 }
+    requires room { HasRoom f.old node_room }
     requires low { 1 ≤ length xs.now }
     requires high { length xs.now ≤ 64 }
     requires xs_in { IsOver f.old.variables xs.now }

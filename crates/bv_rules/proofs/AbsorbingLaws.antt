@@ -10,7 +10,7 @@ use Rattle.dag.specs.Graph.{Graph}
 use Rattle.bv_rules.specs.declared.plan.PlanId.TheVariants.{New}
 use Rattle.bv_rules.specs.Plans.{IsView, SameValue, IsConst, one_plan, step}
 use Rattle.bv_rules.proofs.Viewing.{at_node, first_const, second_const, width_read}
-use Rattle.bv_rules.proofs.WordLaws as laws
+use Rattle.bv_words.proofs.WordLaws as laws
 
 pub and_zero : (g : Graph) (n : Node) (a b : NodeId) (w : ℕ) (ch : List (Option Node)) → n ≡ And a b → IsConst (slice_index_or ch 1 None) 0 → IsView g n ch → SameValue g n (one_plan (step (Const w 0) (New 0) (New 0) (New 0)))
 and_zero g n a b w ch is const view = at_node g n (And a b) (one_plan (step (Const w 0) (New 0) (New 0) (New 0))) ch is view (λ v0 input values h.

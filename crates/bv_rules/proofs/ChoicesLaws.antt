@@ -12,7 +12,7 @@ use Rattle.bv_rules.specs.Plans.{IsView, SameValue, IsConst, same_plan, one_plan
 use Rattle.bv_rules.proofs.Viewing.{at_node, chosen_bit, first_child, first_const, second_child, second_const, third_child, third_const}
 use Rattle.dag.proofs.Growing.{some_of, some_same}
 use Rattle.dag.proofs.Inverting.{choice_of, same_of}
-use Rattle.bv_rules.proofs.WordLaws as laws
+use Rattle.bv_words.proofs.WordLaws as laws
 use Rattle.std.proofs.lemmas.Option.{get_or_from_slice_get}
 
 pub ite_true : (g : Graph) (n : Node) (a b c : NodeId) (ch : List (Option Node)) → n ≡ Ite a b c → IsConst (slice_index_or ch 0 None) 1 → IsView g n ch → SameValue g n (same_plan b)

@@ -12,9 +12,9 @@ use Rattle.bv_rules.specs.declared.plan.PlanId.TheVariants.{Old, New}
 use Rattle.bv_rules.specs.Plans.{IsView, SameValue, IsConst, IsConstAt, IsConstBeside, HasZerosAbove, same_plan, one_plan, step, with_constant}
 use Rattle.bv_rules.proofs.Viewing.{at_node, chosen_bit, pair_of, second_const, width_read}
 use Rattle.bv_rules.proofs.Found.{beside_const, const_value, rest_there, width_found}
-use Rattle.bv_rules.proofs.PartLaws as parts
+use Rattle.bv_words.proofs.PartLaws as parts
 use Rattle.bv_rules.proofs.RotationLaws.{lower_value}
-use Rattle.bv_rules.proofs.WordLaws as laws
+use Rattle.bv_words.proofs.WordLaws as laws
 
 -- what is compared has one width
 pub compared_fit : (g : Graph) (a b : NodeId) → IsSome (test_width (same_width (slice_get g.widths a.0) (slice_get g.widths b.0))) → IsSome (same_width (slice_get g.widths a.0) (slice_get g.widths b.0))

@@ -9,7 +9,7 @@ use Rattle.dag.specs.Graph.{Graph}
 use Rattle.bv_rules.specs.declared.plan.PlanId.TheVariants.{Old, New}
 use Rattle.bv_rules.specs.Plans.{IsView, SameValue, IsConst, same_plan, one_plan, three_plan, step}
 use Rattle.bv_rules.proofs.Viewing.{at_node, moved_value, first_child, second_const, width_read}
-use Rattle.bv_rules.proofs.WordLaws as laws
+use Rattle.bv_words.proofs.WordLaws as laws
 use Rattle.bv_words.proofs.Laws.{shl_as_cat, shr_as_cat, plus_as_shl, slice_slice as slice_slice_words, slice_cat_high as slice_cat_high_words, slice_cat_low as slice_cat_low_words}
 use Rattle.std.proofs.lemmas.Nat.{pow_pos}
 use Rattle.dag.specs.Node.{constant_width, cut_width}

@@ -9,7 +9,7 @@ use Rattle.dag.specs.Graph.{Graph}
 use Rattle.bv_rules.specs.declared.plan.PlanId.TheVariants.{New}
 use Rattle.bv_rules.specs.Plans.{IsView, SameValue, same_plan, one_plan, step}
 use Rattle.bv_rules.proofs.Viewing.{at_node}
-use Rattle.bv_rules.proofs.WordLaws as laws
+use Rattle.bv_words.proofs.WordLaws as laws
 
 pub and_self : (g : Graph) (n : Node) (a b : NodeId) (ch : List (Option Node)) → n ≡ And a b → a ≡ b → IsView g n ch → SameValue g n (same_plan a)
 and_self g n a b ch is same view = at_node g n (And a a) (same_plan a) ch (is ∙ ap (λ (k : NodeId). And a k) (sym same)) view (λ v0 input values h. sym (and_self_bits (slice_index values a.0)))

@@ -1,7 +1,7 @@
 -- Sign extension: bits of an extended word, and extension twice.
 use Rattle.std.proofs.Common.{◌≡◌, ℕ, ◌+◌, ◌-◌, ◌<◌, ◌≤◌, List, refl, sym, ◌∙◌, ap, subst, Option, Some, None, arith}
 use Rattle.std.specs.Prelude.{slice_get, slice_index, slice_index_or}
-use Rattle.bv_words.specs.Words.{cat, slice, sx}
+use Rattle.bv_words.specs.Words.{cat, sx}
 use Rattle.dag.specs.declared.node.NodeId.{NodeId}
 use Rattle.dag.specs.declared.node.Node.{Node}
 use Rattle.dag.specs.declared.node.Node.TheVariants.{Slice, Sext, Cat}
@@ -13,8 +13,8 @@ use Rattle.bv_rules.specs.declared.plan.PlanId.TheVariants.{Old, New}
 use Rattle.bv_rules.specs.Plans.{IsView, SameValue, IsConstAt, one_plan, step, extended_bits, widened}
 use Rattle.bv_rules.proofs.Viewing.{at_node, first_child, width_read}
 use Rattle.bv_rules.proofs.Found.{const_value, extended_of, width_found, cat_any}
-use Rattle.bv_rules.proofs.WordLaws as laws
-use Rattle.bv_rules.proofs.PartLaws as parts
+use Rattle.bv_words.proofs.WordLaws as laws
+use Rattle.bv_words.proofs.PartLaws as parts
 
 -- what a slice of an extended word is made of
 pub record Extension (g : Graph) (h l v o : ℕ) (a x : NodeId) : Type 0 where

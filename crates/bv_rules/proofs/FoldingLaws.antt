@@ -1,10 +1,9 @@
 -- Operations on constants are constants.
-use Rattle.std.proofs.Common.{◌≡◌, ℕ, ◌<◌, true, List, [], refl, sym, ◌∙◌, ap, subst, Option, Some, None, arith}
+use Rattle.std.proofs.Common.{◌≡◌, ℕ, true, List, [], refl, sym, ◌∙◌, Option, Some, None, arith}
 use Rattle.std.specs.Prelude.{slice_get, slice_index, slice_index_or, nat_lt}
 use Rattle.std.proofs.lemmas.Option.{get_or_from_slice_get}
-use Rattle.dag.specs.declared.node.NodeId.{NodeId}
 use Rattle.dag.specs.declared.node.Node.{Node}
-use Rattle.dag.specs.declared.node.Node.TheVariants.{Leaf, Const, Not, And, Or, Xor, Neg, Plus, Times, Eq, Ult, Slt, Ite, Slice, Cat, Sext, Shl, Shr}
+use Rattle.dag.specs.declared.node.Node.TheVariants.{Leaf, Const, Not, And, Or, Xor, Neg, Plus, Times, Eq, Ult, Slt, Ite, Slice, Cat, Sext, Shl, Shr, Udiv, Urem}
 use Rattle.dag.specs.declared.value.Word.{Word}
 use Rattle.dag.specs.Node.{children, first, second, kind_value, constant_width, word_at, IsWord}
 use Rattle.dag.specs.Graph.{Graph, AreValues}
@@ -33,6 +32,8 @@ reads_one (Cat a b) input x y z y' z' h = absurd (omega arith)
 reads_one (Sext w a) input x y z y' z' h = refl
 reads_one (Shl a b) input x y z y' z' h = absurd (omega arith)
 reads_one (Shr a b) input x y z y' z' h = absurd (omega arith)
+reads_one (Udiv a b) input x y z y' z' h = absurd (omega arith)
+reads_one (Urem a b) input x y z y' z' h = absurd (omega arith)
 
 -- and a node of two children reads these alone
 pub reads_two : (n : Node) (input : List ℕ) (x y z z' : Word) → (children n).count ≡ 2 → kind_value input n x y z ≡ kind_value [] n x y z'
@@ -54,6 +55,8 @@ reads_two (Cat a b) input x y z z' h = refl
 reads_two (Sext w a) input x y z z' h = refl
 reads_two (Shl a b) input x y z z' h = refl
 reads_two (Shr a b) input x y z z' h = refl
+reads_two (Udiv a b) input x y z z' h = refl
+reads_two (Urem a b) input x y z z' h = refl
 
 -- the word of a constant of a graph
 pub const_word : (g : Graph) (input values : List ℕ) (k w v : ℕ) → AreValues g input values → slice_get g.nodes k ≡ Some (Const w v) → constant_width w v ≡ slice_get g.widths k → IsWord w v → word_at g.widths values k ≡ record { width = w; value = v }

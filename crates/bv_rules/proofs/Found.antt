@@ -1,16 +1,15 @@
 -- What it means that something was found below the children of a node.
-use Rattle.std.proofs.Common.{◌≡◌, ◌⊎◌, ℕ, ◌+◌, ◌*◌, ◌<◌, ◌≤◌, ◌^◌, List, refl, sym, ◌∙◌, ap, subst, Option, Some, None, inl, inr, arith}
+use Rattle.std.proofs.Common.{◌≡◌, ℕ, ◌+◌, ◌≤◌, List, refl, sym, ◌∙◌, ap, subst, Option, Some, inl, inr}
 use Rattle.std.specs.Prelude.{slice_get, slice_index, IsSome}
 use Rattle.std.proofs.lemmas.Option.{get_or_from_slice_get}
 use Rattle.bv_words.specs.Words.{cat}
 use Rattle.dag.specs.declared.node.NodeId.{NodeId}
-use Rattle.dag.specs.declared.node.Node.{Node}
-use Rattle.dag.specs.declared.node.Node.TheVariants.{Const, Cat}
+use Rattle.dag.specs.declared.node.Node.TheVariants.{Const}
 use Rattle.dag.specs.Node.{same_width, joined_width, widened_width}
 use Rattle.dag.specs.Graph.{Graph, AreValues}
 use Rattle.dag.proofs.Growing.{some_of, some_same}
 use Rattle.dag.proofs.Inverting.{same_of, joined_fits, widened_of}
-use Rattle.bv_rules.specs.Plans.{IsConstAt, IsConstBeside, IsBeside, HasZerosBelow, HasZerosAbove, AreParts}
+use Rattle.bv_rules.specs.Plans.{IsConstAt, IsConstBeside, IsBeside}
 use Rattle.bv_rules.proofs.Viewing.{Pair}
 
 pub const_value : (g : Graph) (input values : List ℕ) (a : NodeId) (v : ℕ) → AreValues g input values → IsConstAt g a v → slice_index values a.0 ≡ v

@@ -1,9 +1,8 @@
 -- Constants gathered: of two operations of one kind with constants, one is left.
-use Rattle.std.proofs.Common.{◌≡◌, ℕ, ◌+◌, ◌*◌, ◌%◌, ◌^◌, ◌≤◌, List, refl, sym, ◌∙◌, ap, subst, Option, Some, None}
+use Rattle.std.proofs.Common.{◌≡◌, ℕ, ◌+◌, ◌*◌, ◌%◌, ◌^◌, List, sym, ◌∙◌, ap, subst, Option, Some}
 use Rattle.std.specs.Prelude.{slice_get, slice_index, IsSome, bit_and, bit_xor}
 use Rattle.std.specs.Int.Bits.{xor_assoc}
 use Rattle.std.proofs.lemmas.Nat.{and_assoc, and_comm, xor_comm}
-use Rattle.std.proofs.lemmas.Option.{get_or_from_slice_get}
 use Rattle.bv_words.specs.Words.{chop, plus, times}
 use Rattle.bv_words.proofs.CodeLemmas.{plus_is, times_is}
 use Rattle.dag.specs.declared.node.NodeId.{NodeId}
@@ -11,12 +10,10 @@ use Rattle.dag.specs.declared.node.Node.{Node}
 use Rattle.dag.specs.declared.node.Node.TheVariants.{And, Xor, Plus, Times}
 use Rattle.dag.specs.Node.{same_width}
 use Rattle.dag.specs.Graph.{Graph, AreValues}
-use Rattle.dag.proofs.Growing.{some_of}
-use Rattle.dag.proofs.Inverting.{same_of}
 use Rattle.bv_rules.specs.Plans.{IsView, SameValue, IsConstBeside, with_constant}
 use Rattle.bv_rules.proofs.Viewing.{at_node, pair_of, width_read}
 use Rattle.bv_rules.proofs.Found.{beside_const, node_wide, rest_width, rest_there}
-use Rattle.bv_rules.proofs.WordLaws as laws
+use Rattle.bv_words.proofs.WordLaws as laws
 
 -- for every operation whose operands may be swapped and regrouped
 pub gathered : (f : ℕ → ℕ → ℕ) → ((x y : ℕ) → f x y ≡ f y x) → ((x y z : ℕ) → f (f x y) z ≡ f x (f y z)) → (g : Graph) (input values : List ℕ) (a b m p q x : NodeId) (c d : ℕ) → AreValues g input values → IsConstBeside g a b m d → slice_index values m.0 ≡ f (slice_index values p.0) (slice_index values q.0) → IsConstBeside g p q x c → f (slice_index values a.0) (slice_index values b.0) ≡ f (slice_index values x.0) (f c d)

@@ -1,19 +1,19 @@
 -- Joints of parts: regrouped, put together again, and cut across.
-use Rattle.std.proofs.Common.{◌≡◌, ℕ, ◌+◌, ◌-◌, ◌<◌, ◌≤◌, List, refl, sym, ◌∙◌, ap, subst, Option, Some, None, arith}
+use Rattle.std.proofs.Common.{◌≡◌, ℕ, ◌+◌, ◌-◌, ◌<◌, ◌≤◌, List, refl, sym, ◌∙◌, ap, Option, Some, None, arith}
 use Rattle.std.specs.Prelude.{slice_get, slice_index, slice_index_or}
 use Rattle.bv_words.specs.Words.{cat, slice}
 use Rattle.dag.specs.declared.node.NodeId.{NodeId}
 use Rattle.dag.specs.declared.node.Node.{Node}
 use Rattle.dag.specs.declared.node.Node.TheVariants.{Slice, Cat}
 use Rattle.dag.specs.Node.{cut_width, joined_width}
-use Rattle.dag.specs.Graph.{Graph, AreValues}
-use Rattle.dag.proofs.Growing.{some_of, some_same}
+use Rattle.dag.specs.Graph.{Graph}
+use Rattle.dag.proofs.Growing.{some_of}
 use Rattle.dag.proofs.Inverting.{cut_of, cut_fits, joined_of}
 use Rattle.bv_rules.specs.declared.plan.PlanId.TheVariants.{Old, New}
 use Rattle.bv_rules.specs.Plans.{IsView, SameValue, one_plan, step, regrouped, cut_parts}
 use Rattle.bv_rules.proofs.Viewing.{at_node, first_child, second_child, width_read}
 use Rattle.bv_rules.proofs.Found.{width_found, cat_any, joined_at}
-use Rattle.bv_rules.proofs.PartLaws as parts
+use Rattle.bv_words.proofs.PartLaws as parts
 
 pub cat_cat : (g : Graph) (n : Node) (m a b c : NodeId) (ch : List (Option Node)) → n ≡ Cat m c → slice_get g.nodes m.0 ≡ Some (Cat a b) → IsView g n ch → SameValue g n (regrouped a b c)
 cat_cat g n m a b c ch is node view = at_node g n (Cat m c) (regrouped a b c) ch is view (λ v0 input values hold.

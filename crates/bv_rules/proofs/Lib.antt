@@ -2,6 +2,7 @@ pub mod AbsorbingLaws
 pub mod ChoicesLaws
 pub mod ComparisonsLaws
 pub mod CutsLaws
+pub mod DivisionLaws
 pub mod EqualLaws
 pub mod ExtensionLaws
 pub mod FoldingLaws
@@ -13,7 +14,5 @@ pub mod NestLaws
 pub mod NeutralLaws
 pub mod OppositeLaws
 pub mod OrderLaws
-pub mod PartLaws
 pub mod RotationLaws
 pub mod Viewing
-pub mod WordLaws

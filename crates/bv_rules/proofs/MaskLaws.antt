@@ -1,5 +1,5 @@
 -- Masks and products with powers of two as cuts.
-use Rattle.std.proofs.Common.{◌≡◌, ℕ, ◌+◌, ◌-◌, ◌<◌, ◌≤◌, ◌^◌, List, refl, sym, ◌∙◌, ap, subst, Option, Some, None, arith}
+use Rattle.std.proofs.Common.{◌≡◌, ℕ, ◌+◌, ◌-◌, ◌<◌, ◌≤◌, ◌^◌, List, sym, ◌∙◌, ap, Option, Some, arith}
 use Rattle.std.specs.Prelude.{slice_get, slice_index, bit_and}
 use Rattle.std.proofs.lemmas.Nat.{and_comm}
 use Rattle.bv_words.specs.Words.{times}
@@ -13,8 +13,8 @@ use Rattle.dag.proofs.Inverting.{cut_fits}
 use Rattle.bv_rules.specs.Plans.{IsView, SameValue, IsConstBeside, lowest, moved_up}
 use Rattle.bv_rules.proofs.Viewing.{at_node, pair_of, width_read, moved_value}
 use Rattle.bv_rules.proofs.Found.{beside_const, rest_width, cat_any}
-use Rattle.bv_rules.proofs.WordLaws as laws
-use Rattle.bv_rules.proofs.PartLaws as parts
+use Rattle.bv_words.proofs.WordLaws as laws
+use Rattle.bv_words.proofs.PartLaws as parts
 
 pub and_mask : (g : Graph) (n : Node) (a b x : NodeId) (c w k : ℕ) (ch : List (Option Node)) → n ≡ And a b → IsConstBeside g a b x c → Some w ≡ slice_get g.widths x.0 → c ≡ 2 ^ k - 1 → 1 ≤ k → k < w → IsView g n ch → SameValue g n (lowest (w - k) k x)
 and_mask g n a b x c w k ch is const width mask some small view = at_node g n (And a b) (lowest (w - k) k x) ch is view (λ v0 input values h.

@@ -12,7 +12,7 @@ use Rattle.bv_rules.specs.declared.plan.PlanId.TheVariants.{Old, New}
 use Rattle.bv_rules.specs.Plans.{IsView, SameValue, IsBeside, IsUnionLessCommon, same_plan, one_plan, step}
 use Rattle.bv_rules.proofs.Viewing.{at_node, pair_of, second_child, width_read, index_same, word_in, pair_bound, Pair}
 use Rattle.bv_rules.proofs.Found.{beside_value, node_wide}
-use Rattle.bv_rules.proofs.WordLaws as laws
+use Rattle.bv_words.proofs.WordLaws as laws
 
 pub xor_nest : (g : Graph) (n : Node) (a b p q y : NodeId) (ch : List (Option Node)) → n ≡ Xor a b → slice_index_or ch 1 None ≡ Some (Xor p q) → IsBeside p q a y → IsView g n ch → SameValue g n (same_plan y)
 xor_nest g n a b p q y ch is child found view = at_node g n (Xor a b) (same_plan y) ch is view (λ v0 input values h.

@@ -9,7 +9,7 @@ use Rattle.dag.specs.declared.node.Node.TheVariants.{And, Or, Xor, Plus, Times, 
 use Rattle.dag.specs.Graph.{Graph}
 use Rattle.bv_rules.specs.Plans.{IsView, SameValue, IsConst, same_plan}
 use Rattle.bv_rules.proofs.Viewing.{at_node, word_in, pair_of, pair_bound, first_const, second_const, width_read}
-use Rattle.bv_rules.proofs.WordLaws as laws
+use Rattle.bv_words.proofs.WordLaws as laws
 
 pub plus_zero : (g : Graph) (n : Node) (a b : NodeId) (ch : List (Option Node)) → n ≡ Plus a b → IsConst (slice_index_or ch 1 None) 0 → IsView g n ch → SameValue g n (same_plan a)
 plus_zero g n a b ch is const view = at_node g n (Plus a b) (same_plan a) ch is view (λ v0 input values h.

@@ -10,7 +10,7 @@ use Rattle.dag.specs.Graph.{Graph}
 use Rattle.bv_rules.specs.declared.plan.PlanId.TheVariants.{Old, New}
 use Rattle.bv_rules.specs.Plans.{IsView, SameValue, IsConst, same_plan, one_plan, step}
 use Rattle.bv_rules.proofs.Viewing.{at_node, word_in, index_same, first_child, first_const, second_const, width_read}
-use Rattle.bv_rules.proofs.WordLaws as laws
+use Rattle.bv_words.proofs.WordLaws as laws
 
 pub not_not : (g : Graph) (n : Node) (a b : NodeId) (ch : List (Option Node)) → n ≡ Not a → slice_index_or ch 0 None ≡ Some (Not b) → IsView g n ch → SameValue g n (same_plan b)
 not_not g n a b ch is child view = at_node g n (Not a) (same_plan b) ch is view (λ v0 input values h.

@@ -9,7 +9,7 @@ use Rattle.dag.specs.Graph.{Graph}
 use Rattle.bv_rules.specs.declared.plan.PlanId.TheVariants.{Old, New}
 use Rattle.bv_rules.specs.Plans.{IsView, SameValue, one_plan, step}
 use Rattle.bv_rules.proofs.Viewing.{at_node, pair_of}
-use Rattle.bv_rules.proofs.WordLaws as laws
+use Rattle.bv_words.proofs.WordLaws as laws
 
 pub and_swap : (g : Graph) (n : Node) (a b : NodeId) (ch : List (Option Node)) → n ≡ And a b → IsView g n ch → SameValue g n (one_plan (step (And b a) (Old b) (Old a) (New 0)))
 and_swap g n a b ch is view = at_node g n (And a b) (one_plan (step (And b a) (Old b) (Old a) (New 0))) ch is view (λ v0 input values h.

@@ -1,5 +1,5 @@
 -- Words that are put together from two parts.
-use Rattle.std.proofs.Common.{◌≡◌, ℕ, ◌+◌, ◌*◌, ◌<◌, ◌^◌, List, refl, sym, ◌∙◌, ap, subst, Option, Some, None, inl, inr}
+use Rattle.std.proofs.Common.{◌≡◌, ℕ, ◌+◌, ◌*◌, ◌^◌, List, refl, sym, ◌∙◌, ap, subst, Option, Some, inl, inr}
 use Rattle.std.specs.Prelude.{slice_get, slice_index, IsSome, bit_or, bit_xor}
 use Rattle.std.specs.Int.Bits.{xor_shifted}
 use Rattle.std.proofs.lemmas.Nat.{or_shifted, or_comm, xor_comm}
@@ -8,14 +8,13 @@ use Rattle.bv_words.specs.Words.{cat, plus}
 use Rattle.dag.specs.declared.node.NodeId.{NodeId}
 use Rattle.dag.specs.declared.node.Node.{Node}
 use Rattle.dag.specs.declared.node.Node.TheVariants.{Or, Xor, Plus, Cat}
-use Rattle.dag.specs.Node.{joined_width}
 use Rattle.dag.specs.Graph.{Graph, AreValues, fits_width}
 use Rattle.dag.proofs.Growing.{some_of}
 use Rattle.dag.proofs.Inverting.{joined_of}
 use Rattle.bv_rules.specs.Plans.{IsView, SameValue, HasZerosBelow, HasZerosAbove, AreParts, joined}
 use Rattle.bv_rules.proofs.Viewing.{at_node, pair_of, word_in}
 use Rattle.bv_rules.proofs.Found.{const_value}
-use Rattle.bv_rules.proofs.WordLaws as laws
+use Rattle.bv_words.proofs.WordLaws as laws
 
 pub upper_value : (g : Graph) (input values : List ℕ) (a high : NodeId) (k : ℕ) → AreValues g input values → HasZerosBelow g a high k → slice_index values a.0 ≡ slice_index values high.0 * 2 ^ k
 upper_value g input values a high k h p =

@@ -213,7 +213,7 @@ pub(crate) fn moved_up(width: u32, a: NodeId, places: u32) -> Plan
 }
 
 /// The plan of x moved down by some places: zeros above its upper bits.
-fn moved_down(width: u32, a: NodeId, places: u32) -> Plan
+pub(crate) fn moved_down(width: u32, a: NodeId, places: u32) -> Plan
     requires { places < width }
     ensures { result ≡ moved_down_plan width a places }
 {

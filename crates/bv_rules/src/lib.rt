@@ -7,7 +7,7 @@
 //! - `plan`: views, plans and their makers
 //! - `gate`: the test that a plan fits, keeps the width and isn't dear; the proof of a rule is its value alone
 //! - `neutral`, `absorbing`, `folding`, `equal`, `order`, `choices`, `comparisons`, `opposite`, `nests`, `gather`,
-//!   `masks`, `cuts`, `joints`, `extensions`, `rotations`: the rules, family by family
+//!   `masks`, `divisions`, `cuts`, `joints`, `extensions`, `rotations`: the rules, family by family
 //! - `matching`: what several families look for
 //! - `picking`: the first rule that applies
 //!
@@ -18,6 +18,7 @@ mod absorbing;
 mod choices;
 mod comparisons;
 mod cuts;
+mod divisions;
 mod equal;
 mod extensions;
 mod folding;

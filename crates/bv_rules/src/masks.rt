@@ -69,7 +69,7 @@ fn ones_of(value: u64) -> Option<u32>
 }
 
 /// The exponent of a power of two above 1.
-fn exponent_of(value: u64) -> Option<u32>
+pub(crate) fn exponent_of(value: u64) -> Option<u32>
     ensures is { IfSome result (λ k. value ≡ 2 ^ k) }
     ensures range { IfSome result (λ k. (0 < k) × (k < 64)) }
 {
@@ -82,7 +82,7 @@ fn exponent_of(value: u64) -> Option<u32>
 }
 
 /// The plan of the lowest bits of a word below so many zeros.
-fn lowest(zeros: u32, bits: u32, a: NodeId) -> Plan
+pub(crate) fn lowest(zeros: u32, bits: u32, a: NodeId) -> Plan
     requires { 1 ≤ bits }
     ensures { result ≡ lowest_plan zeros bits a }
 {

@@ -4,8 +4,8 @@ ghost use Rattle.bv_rules.specs.Plans.{IsView, KeepsIf, Views};
 
 use crate::plan::{NodeView, Plan};
 use crate::{
-    absorbing, choices, comparisons, cuts, equal, extensions, folding, gather, joints, masks,
-    nests, neutral, opposite, order, rotations,
+    absorbing, choices, comparisons, cuts, divisions, equal, extensions, folding, gather, joints,
+    masks, nests, neutral, opposite, order, rotations,
 };
 use case_tables::first_of;
 use dag::Dag;
@@ -39,6 +39,7 @@ fn first(dag: &Dag, view: NodeView) -> Option<Plan>
         nests::first(dag, view),
         gather::first(dag, view),
         masks::first(dag, view),
+        divisions::first(dag, view),
         cuts::first(dag, view),
         joints::first(dag, view),
         extensions::first(dag, view),

@@ -6,7 +6,7 @@ use Rattle.std.proofs.lemmas.List.{get_or-map}
 use Rattle.std.proofs.lemmas.List.FromFn.{get_or-map-range_with_len}
 use Rattle.std.proofs.lemmas.Option.{get_or_from_slice_get, slice_get_within}
 use Rattle.dag.specs.declared.node.Node.{Node}
-use Rattle.dag.specs.declared.node.Node.TheVariants.{Leaf, Const, Not, And, Or, Xor, Neg, Plus, Times, Eq, Ult, Slt, Ite, Slice, Cat, Sext, Shl, Shr}
+use Rattle.dag.specs.declared.node.Node.TheVariants.{Leaf, Const, Not, And, Or, Xor, Neg, Plus, Times, Eq, Ult, Slt, Ite, Slice, Cat, Sext, Shl, Shr, Udiv, Urem}
 use Rattle.bv_rules_rows.specs.Terms.{IsLeaf, leaf_names}
 
 -- the first place of a word among the names
@@ -46,6 +46,8 @@ no_leaf word widths none (Cat a b) h = h
 no_leaf word widths none (Sext w a) h = h
 no_leaf word widths none (Shl a b) h = h
 no_leaf word widths none (Shr a b) h = h
+no_leaf word widths none (Udiv a b) h = h
+no_leaf word widths none (Urem a b) h = h
 
 -- no name is the word
 pub no_name : (word widths : List ℕ) → place_of word ≡ None → (n : Node) → IsLeaf widths word n → ⊥

@@ -5,7 +5,7 @@ use Rattle.std.specs.List.{flat_map, position_or_len, before_first, after_first}
 use Rattle.std.specs.Str.Parse.{ParsesUnsigned}
 use Rattle.dag.specs.declared.node.NodeId.{NodeId}
 use Rattle.dag.specs.declared.node.Node.{Node}
-use Rattle.dag.specs.declared.node.Node.TheVariants.{Leaf, Const, Not, And, Or, Xor, Neg, Plus, Times, Eq, Ult, Slt, Ite, Slice, Cat, Sext, Shl, Shr}
+use Rattle.dag.specs.declared.node.Node.TheVariants.{Leaf, Const, Not, And, Or, Xor, Neg, Plus, Times, Eq, Ult, Slt, Ite, Slice, Cat, Sext, Shl, Shr, Udiv, Urem}
 use Rattle.dag.specs.Node.{children}
 use Rattle.bv_rules.specs.declared.plan.PlanId.{PlanId}
 use Rattle.bv_rules.specs.declared.plan.PlanId.TheVariants.{Old, New}
@@ -34,6 +34,8 @@ name (Cat a b) = codes "cat"
 name (Sext w a) = codes "sext"
 name (Shl a b) = codes "shl"
 name (Shr a b) = codes "shr"
+name (Udiv a b) = codes "udiv"
+name (Urem a b) = codes "urem"
 
 -- the numbers that stand after it
 abbrev pub numbers : Node → List ℕ

@@ -63,6 +63,8 @@ pub(crate) fn name_of(node: Node) -> &'static str
         Node::Sext { .. } => "sext",
         Node::Shl(..) => "shl",
         Node::Shr(..) => "shr",
+        Node::Udiv(..) => "udiv",
+        Node::Urem(..) => "urem",
     }
 }
 
@@ -126,7 +128,9 @@ fn binary(name: &str, a: NodeId, b: NodeId) -> Option<Node>
         named(name, Node::Slt(a, b)),
         named(name, Node::Cat(a, b)),
         named(name, Node::Shl(a, b)),
-        named(name, Node::Shr(a, b))
+        named(name, Node::Shr(a, b)),
+        named(name, Node::Udiv(a, b)),
+        named(name, Node::Urem(a, b))
     )
 }
 

@@ -7,10 +7,11 @@ use Rattle.axe_io.specs.Inputs.{IsInput}
 use Rattle.axe_io.proofs.Counting.{IsInput-below, IsInput-length}
 use Rattle.bv_words.specs.Words.{slice, cat, sx, one_if}
 use Rattle.bv_words.proofs.Bounds.{plus_below, times_below, slice_below, and_below, not_below, neg_below, cat_below, sx_below, shl_below, shr_below}
+use Rattle.bv_words.proofs.DivisionLaws.{udiv_below, urem_below}
 use Rattle.dag.specs.declared.node.Form.{Form}
 use Rattle.dag.specs.declared.node.Form.TheVariants.{Input, Constant, Unary, Binary, Test, Choice, Cut, Joined, Widened, Shifted}
 use Rattle.dag.specs.declared.node.Node.{Node}
-use Rattle.dag.specs.declared.node.Node.TheVariants.{Leaf, Const, Not, And, Or, Xor, Neg, Plus, Times, Eq, Ult, Slt, Ite, Slice, Cat, Sext, Shl, Shr}
+use Rattle.dag.specs.declared.node.Node.TheVariants.{Leaf, Const, Not, And, Or, Xor, Neg, Plus, Times, Eq, Ult, Slt, Ite, Slice, Cat, Sext, Shl, Shr, Udiv, Urem}
 use Rattle.dag.specs.Node.{form, width_by, same_width, node_width, node_value, first, second, third, IsWord, InWords}
 use Rattle.dag.proofs.Inverting.{leaf_of, constant_of, same_of, test_of, choice_of, HasCut, cut_of, HasParts, joined_of, HasNarrower, widened_of, shifted_of}
 
@@ -104,6 +105,8 @@ node_below ls input ws vs (Sext n a) w h k e =
     sx_at ws vs a.0 n p.old w (get_or_from_slice_get ws a.0 p.old 0 p.found) p.width p.order (h a.0 p.old p.found)
 node_below ls input ws vs (Shl a b) w h k e = let p : slice_get ws a.0 ≡ Some w = shifted_of (slice_get ws a.0) (slice_get ws b.0) w e in let i : slice_index ws a.0 ≡ w = get_or_from_slice_get ws a.0 w 0 p in rw i (shl_below w _ _)
 node_below ls input ws vs (Shr a b) w h k e = let p : slice_get ws a.0 ≡ Some w = shifted_of (slice_get ws a.0) (slice_get ws b.0) w e in let i : slice_index ws a.0 ≡ w = get_or_from_slice_get ws a.0 w 0 p in rw i (shr_below w _ _ ((h a.0 w p).within))
+node_below ls input ws vs (Udiv a b) w h k e = let p = same_of (slice_get ws a.0) (slice_get ws b.0) w e in udiv_below w _ _ ((h a.0 w p.0).within)
+node_below ls input ws vs (Urem a b) w h k e = let p = same_of (slice_get ws a.0) (slice_get ws b.0) w e in urem_below w _ _ ((h a.0 w p.0).within)
 
 -- both: the node's word
 pub node_word : (ls input ws vs : List ℕ) (n : Node) (w : ℕ) → AllWide ws → InWords ws vs → IsInput ls input → node_width ls ws n ≡ Some w → IsWord w (node_value input ws vs n)

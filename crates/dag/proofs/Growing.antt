@@ -5,11 +5,12 @@ use Rattle.std.proofs.lemmas.Option.{slice_get-get_or, slice_get_within, slice_g
 use Rattle.std.proofs.lemmas.List.{take-append-le, get_or_append_left, take-append-drop}
 use Rattle.std.proofs.Math.Seq.{get_or-append_seam, take-append_seam}
 use Rattle.std.proofs.lemmas.Bool.{cases_lt}
+use Rattle.dag.specs.declared.node.NodeId.{NodeId}
 use Rattle.dag.specs.declared.node.Node.{Node}
 use Rattle.dag.specs.declared.node.Node.TheVariants.{Const}
 use Rattle.dag.specs.declared.value.Word.{Word}
 use Rattle.dag.specs.Node.{form, node_width, node_value, node_charge, charges, word_at, first, second, third}
-use Rattle.dag.specs.Graph.{Graph, IsGraph, AreValues, Extends, Makes, Adds, Costs, NoRepeats, Inserts, leaves_of, fits_width, graph_charge, charge_in}
+use Rattle.dag.specs.Graph.{Graph, IsGraph, AreValues, Extends, Makes, Adds, Costs, NoRepeats, Inserts, HasWidth, Tells, Grows, leaves_of, fits_width, graph_charge, charge_in}
 use Rattle.dag.proofs.Reading.{reads_map, form_reads, width_reads, value_reads, charge_reads}
 use Rattle.dag.proofs.Bounds.{AllWide, node_wide}
 use Rattle.dag.proofs.Lists.{snoc_cases}
@@ -186,6 +187,31 @@ charge_more g n w is fits =
 
 pub costs_refl : (g : Graph) (count sum : ℕ) → Costs g g count sum
 costs_refl g count sum = record { nodes = omega arith; units = omega arith }
+
+pub costs_trans : (a b c : Graph) (m n k l : ℕ) → Costs a b m n → Costs b c k l → Costs a c (m + k) (n + l)
+costs_trans a b c m n k l p q = record { nodes = omega (arith, p.nodes, q.nodes); units = omega (arith, p.units, q.units) }
+
+pub grows_refl : (g : Graph) (count sum : ℕ) → Grows g g count sum
+grows_refl g count sum = record { extends = extends_refl g; costs = costs_refl g count sum }
+
+-- what grows by so much, and then by so much more
+pub grows_trans : (a b c : Graph) (m n k l count sum : ℕ) → Grows a b m n → Grows b c k l → m + k ≤ count → n + l ≤ sum → Grows a c count sum
+grows_trans a b c m n k l count sum p q few cheap = record {
+  extends = extends_trans a b c p.extends q.extends;
+  costs = record { nodes = omega (arith, p.costs.nodes, q.costs.nodes, few); units = omega (arith, p.costs.units, q.costs.units, cheap) };
+}
+
+-- what a node tells stays true in a longer graph
+pub tells_more : (a b : Graph) (w : ℕ) (f : List ℕ → ℕ) (id : NodeId) → Extends a b → Tells a w f id → Tells b w f id
+tells_more a b w f id e t = record { wide = e.widths id.0 w t.wide; is = λ input values are. t.is input values (e.values input values are) }
+
+-- and what is the same on each input may be told in its place
+pub tells_same : (g : Graph) (w : ℕ) (f h : List ℕ → ℕ) (id : NodeId) → Tells g w f id → ((input values : List ℕ) → AreValues g input values → f values ≡ h values) → Tells g w h id
+tells_same g w f h id t e = record { wide = t.wide; is = λ input values are. t.is input values are ∙ e input values are }
+
+-- a place with a width is one of a node
+pub place_inside : (g : Graph) → IsGraph g → (k w : ℕ) → HasWidth g.widths k w → k < length g.nodes
+place_inside g is k w at = omega (arith, slice_get_within g.widths k w at, is.size)
 
 pub adds_costs : (old new : Graph) (n : Node) (k : ℕ) → IsGraph old → IsSome (fits_width old n) → Adds old new n k → Costs old new 1 (node_charge old.widths (unwrap_or (fits_width old n) 0) n)
 adds_costs old new n k is fits (inl h) = subst (λ (g : Graph). Costs old g 1 (node_charge old.widths (unwrap_or (fits_width old n) 0) n)) (sym h.same) (costs_refl old 1 _)

@@ -2,8 +2,10 @@ pub mod Bounds
 pub mod Growing
 pub mod Inverting
 pub mod Lists
+pub mod Positions
 pub mod Reading
 pub mod Replacing
 pub mod Sets
+pub mod Truths
 pub mod Values
 pub mod Words

@@ -4,7 +4,7 @@ use Rattle.std.specs.Prelude.{IsSome, nat_eq, cond}
 use Rattle.dag.specs.declared.node.Form.{Form}
 use Rattle.dag.specs.declared.node.Form.TheVariants.{Input, Constant, Unary, Binary, Test, Choice, Cut, Joined, Widened, Shifted}
 use Rattle.dag.specs.declared.node.Node.{Node}
-use Rattle.dag.specs.declared.node.Node.TheVariants.{Leaf, Const, Not, And, Or, Xor, Neg, Plus, Times, Eq, Ult, Slt, Ite, Slice, Cat, Sext, Shl, Shr}
+use Rattle.dag.specs.declared.node.Node.TheVariants.{Leaf, Const, Not, And, Or, Xor, Neg, Plus, Times, Eq, Ult, Slt, Ite, Slice, Cat, Sext, Shl, Shr, Udiv, Urem}
 use Rattle.dag.specs.declared.value.Word.{Word}
 use Rattle.dag.specs.Node.{form, children, width_by, same_width, test_width, choice_width, cut_width, joined_width, widened_width, shifted_width, kind_value, kind_charge, charge_at, widest}
 
@@ -109,6 +109,8 @@ value_reads input (Slt a b) x y z x' y' z' p = ap (λ (u : Word). kind_value inp
 value_reads input (Cat a b) x y z x' y' z' p = ap (λ (u : Word). kind_value input (Cat a b) u y z) p.0 ∙ ap (λ (u : Word). kind_value input (Cat a b) x' u z) p.1
 value_reads input (Shl a b) x y z x' y' z' p = ap (λ (u : Word). kind_value input (Shl a b) u y z) p.0 ∙ ap (λ (u : Word). kind_value input (Shl a b) x' u z) p.1
 value_reads input (Shr a b) x y z x' y' z' p = ap (λ (u : Word). kind_value input (Shr a b) u y z) p.0 ∙ ap (λ (u : Word). kind_value input (Shr a b) x' u z) p.1
+value_reads input (Udiv a b) x y z x' y' z' p = ap (λ (u : Word). kind_value input (Udiv a b) u y z) p.0 ∙ ap (λ (u : Word). kind_value input (Udiv a b) x' u z) p.1
+value_reads input (Urem a b) x y z x' y' z' p = ap (λ (u : Word). kind_value input (Urem a b) u y z) p.0 ∙ ap (λ (u : Word). kind_value input (Urem a b) x' u z) p.1
 value_reads input (Ite a b c) x y z x' y' z' p = ap (λ (u : Word). kind_value input (Ite a b c) u y z) p.0 ∙ ap (λ (u : Word). kind_value input (Ite a b c) x' u z) p.1 ∙ ap (λ (u : Word). kind_value input (Ite a b c) x' y' u) p.2
 
 one_taken : (x x' : ℕ) → x ≡ x' → x ∷ [] ≡ x' ∷ []
@@ -136,6 +138,8 @@ taken_reads (Slt a b) x y z x' y' z' p = two_taken x y x' y' p
 taken_reads (Cat a b) x y z x' y' z' p = two_taken x y x' y' p
 taken_reads (Shl a b) x y z x' y' z' p = two_taken x y x' y' p
 taken_reads (Shr a b) x y z x' y' z' p = two_taken x y x' y' p
+taken_reads (Udiv a b) x y z x' y' z' p = two_taken x y x' y' p
+taken_reads (Urem a b) x y z x' y' z' p = two_taken x y x' y' p
 taken_reads (Ite a b c) x y z x' y' z' p = cc (p.0, p.1, p.2)
 
 -- a node's charge comes from the widths that it reads

@@ -4,7 +4,7 @@ use Rattle.std.specs.Prelude.{slice_get, slice_index}
 use Rattle.dag.specs.declared.node.Form.{Form}
 use Rattle.dag.specs.declared.node.NodeId.{NodeId}
 use Rattle.dag.specs.declared.node.Node.{Node}
-use Rattle.dag.specs.declared.node.Node.TheVariants.{Leaf, Const, Not, And, Or, Xor, Neg, Plus, Times, Eq, Ult, Slt, Ite, Slice, Cat, Sext, Shl, Shr}
+use Rattle.dag.specs.declared.node.Node.TheVariants.{Leaf, Const, Not, And, Or, Xor, Neg, Plus, Times, Eq, Ult, Slt, Ite, Slice, Cat, Sext, Shl, Shr, Udiv, Urem}
 use Rattle.dag.specs.declared.value.Word.{Word}
 use Rattle.dag.specs.Node.{form, width_by, node_width, word_at, kind_value, node_value, kind_charge, node_charge, first, second, third, with_children, child_at}
 use Rattle.dag.proofs.Reading.{Reads, reads_map, width_reads, value_reads, charge_reads}
@@ -28,6 +28,8 @@ form_same (Cat p q) ids = refl
 form_same (Sext w p) ids = refl
 form_same (Shl p q) ids = refl
 form_same (Shr p q) ids = refl
+form_same (Udiv p q) ids = refl
+form_same (Urem p q) ids = refl
 
 pub value_same : (input : List ℕ) (n : Node) (ids : List NodeId) (x y z : Word) → kind_value input (with_children n ids) x y z ≡ kind_value input n x y z
 value_same input (Leaf w i) ids x y z = refl
@@ -48,6 +50,8 @@ value_same input (Cat p q) ids x y z = refl
 value_same input (Sext w p) ids x y z = refl
 value_same input (Shl p q) ids x y z = refl
 value_same input (Shr p q) ids x y z = refl
+value_same input (Udiv p q) ids x y z = refl
+value_same input (Urem p q) ids x y z = refl
 
 pub charge_same : (n : Node) (ids : List NodeId) (w x y z : ℕ) → kind_charge (with_children n ids) w x y z ≡ kind_charge n w x y z
 charge_same (Leaf v i) ids w x y z = refl
@@ -68,6 +72,8 @@ charge_same (Cat p q) ids w x y z = refl
 charge_same (Sext v p) ids w x y z = refl
 charge_same (Shl p q) ids w x y z = refl
 charge_same (Shr p q) ids w x y z = refl
+charge_same (Udiv p q) ids w x y z = refl
+charge_same (Urem p q) ids w x y z = refl
 
 children_are : (n : Node) (ids : List NodeId) → Reads (form n) (first (with_children n ids) ≡ (child_at ids 0).0) (second (with_children n ids) ≡ (child_at ids 1).0) (third (with_children n ids) ≡ (child_at ids 2).0)
 children_are (Leaf w i) ids = tt
@@ -88,6 +94,8 @@ children_are (Cat p q) ids = (refl, refl)
 children_are (Sext w p) ids = refl
 children_are (Shl p q) ids = (refl, refl)
 children_are (Shr p q) ids = (refl, refl)
+children_are (Udiv p q) ids = (refl, refl)
+children_are (Urem p q) ids = (refl, refl)
 
 pub replaced_width : (ls ws : List ℕ) (n : Node) (ids : List NodeId) → node_width ls ws (with_children n ids) ≡ width_by ls (form n) (slice_get ws (child_at ids 0).0) (slice_get ws (child_at ids 1).0) (slice_get ws (child_at ids 2).0)
 replaced_width ls ws n ids =

@@ -1,8 +1,9 @@
 -- Graphs of word operations: their nodes in order, the values of these on an input, and how graphs grow.
-use Rattle.std.specs.Prelude.{◌≡◌, ◌⊎◌, ◌≢◌, ℕ, ◌+◌, ◌^◌, ◌<◌, ◌≤◌, Option, Some, List, [], ◌∷◌, ◌++◌, length, take, slice_get, slice_index, unwrap_or}
+use Rattle.std.specs.Prelude.{◌≡◌, ◌⊎◌, ◌≢◌, ℕ, ◌+◌, ◌^◌, ◌<◌, ◌≤◌, Option, Some, List, [], ◌∷◌, ◌++◌, length, take, slice_get, slice_index, unwrap_or, Bool, nat_eq}
 use Rattle.std.specs.List.{Contains, AllPairs}
 use Rattle.axe_io.specs.Shapes.{ShapeParts, leaf_widths}
 use Rattle.axe_io.specs.Inputs.{IsInput}
+use Rattle.dag.specs.declared.node.NodeId.{NodeId}
 use Rattle.dag.specs.declared.node.Node.{Node}
 use Rattle.dag.specs.declared.node.Node.TheVariants.{Const}
 use Rattle.dag.specs.declared.graph.DagError.{DagError}
@@ -111,6 +112,24 @@ charge_in g n = node_charge g.widths (unwrap_or (fits_width g n) 0) n
 pub record Costs (old new : Graph) (count sum : ℕ) : Type 0 where
   pub nodes : length new.nodes ≤ length old.nodes + count
   pub units : graph_charge new ≤ graph_charge old + sum
+
+-- a place of a list of widths has this width
+abbrev pub HasWidth : List ℕ → ℕ → ℕ → Type 0
+HasWidth widths k w = slice_get widths k ≡ Some w
+
+-- whether a node of width 1 is 1
+abbrev pub is_on : List ℕ → NodeId → Bool
+is_on values id = nat_eq (slice_index values id.0) 1
+
+-- a node has this width, and on each input the value that comes from all nodes' values so
+pub record Tells (g : Graph) (w : ℕ) (f : List ℕ → ℕ) (id : NodeId) : Type 0 where
+  pub wide : HasWidth g.widths id.0 w
+  pub is : (input values : List ℕ) → AreValues g input values → slice_index values id.0 ≡ f values
+
+-- the second graph is the first with at most so many nodes more, whose charges together are at most so many units
+pub record Grows (old new : Graph) (count sum : ℕ) : Type 0 where
+  pub extends : Extends old new
+  pub costs : Costs old new count sum
 
 -- what inserting a node makes of nodes and their widths: nothing, where it stands at the place, or one node more
 pub record Finds (old new : List Node) (before after : List ℕ) (node : Node) (place : ℕ) : Type 0 where

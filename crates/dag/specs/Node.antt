@@ -3,7 +3,7 @@
 -- A kind's width, value and charge come from its children's, by position, and never from their places. So two nodes
 -- of one kind differ only in what their children are.
 use Rattle.std.specs.Prelude.{◌≡◌, ℕ, ◌+◌, ◌-◌, ◌*◌, ◌^◌, ◌&&◌, max, Bool, true, false, cond, ◌<◌, ◌≤◌, ◌++◌, nat_lt, nat_le, nat_eq, Option, Some, None, List, [], ◌∷◌, take, slice_get, slice_index, slice_index_or, bit_and, bit_or, bit_xor}
-use Rattle.bv_words.specs.Words.{slice, cat, sx, neg, bit_not, plus, times, slt, shl, shr, one_if}
+use Rattle.bv_words.specs.Words.{slice, cat, sx, neg, bit_not, plus, times, udiv, urem, slt, shl, shr, one_if}
 use Rattle.dag.specs.declared.node.NodeId.{NodeId}
 use Rattle.dag.specs.declared.node.Children.{Children}
 use Rattle.dag.specs.declared.node.Outline.{Outline}
@@ -11,7 +11,7 @@ use Rattle.dag.specs.declared.node.Form.{Form}
 use Rattle.dag.specs.declared.node.Form.TheVariants.{Input, Constant, Unary, Binary, Test, Choice, Cut, Joined, Widened, Shifted}
 use Rattle.dag.specs.declared.node.Node.{Node}
 use Rattle.dag.specs.declared.value.Word.{Word}
-use Rattle.dag.specs.declared.node.Node.TheVariants.{Leaf, Const, Not, And, Or, Xor, Neg, Plus, Times, Eq, Ult, Slt, Ite, Slice, Cat, Sext, Shl, Shr}
+use Rattle.dag.specs.declared.node.Node.TheVariants.{Leaf, Const, Not, And, Or, Xor, Neg, Plus, Times, Eq, Ult, Slt, Ite, Slice, Cat, Sext, Shl, Shr, Udiv, Urem}
 
 -- what fills the places past a node's children
 abbrev pub no_node : NodeId
@@ -53,6 +53,8 @@ outline (Cat a b) = kind 14 Joined (two a b)
 outline (Sext w a) = kind 15 (Widened w) (one a)
 outline (Shl a b) = kind 16 Shifted (two a b)
 outline (Shr a b) = kind 17 Shifted (two a b)
+outline (Udiv a b) = kind 18 Binary (two a b)
+outline (Urem a b) = kind 19 Binary (two a b)
 
 abbrev pub form : Node → Form
 form n = (outline n).form
@@ -97,6 +99,20 @@ with_children (Cat a b) ids = Cat (child_at ids 0) (child_at ids 1)
 with_children (Sext w a) ids = Sext w (child_at ids 0)
 with_children (Shl a b) ids = Shl (child_at ids 0) (child_at ids 1)
 with_children (Shr a b) ids = Shr (child_at ids 0) (child_at ids 1)
+with_children (Udiv a b) ids = Udiv (child_at ids 0) (child_at ids 1)
+with_children (Urem a b) ids = Urem (child_at ids 0) (child_at ids 1)
+
+-- a node's definition without regard to its children
+abbrev pub bare : Node → Node
+bare n = with_children n (no_node ∷ no_node ∷ no_node ∷ [])
+
+-- how many children a node has
+abbrev pub arity : Node → ℕ
+arity n = (children n).count
+
+-- the place of a node's child at a position
+abbrev pub nth_child : Node → ℕ → ℕ
+nth_child n i = (child_at (children n).ids i).0
 
 -- a width from 1 to 64
 abbrev pub is_width : ℕ → Bool
@@ -198,6 +214,8 @@ kind_value input (Cat a b) x y z = cat x.width x.value y.width y.value
 kind_value input (Sext w a) x y z = sx w x.width x.value
 kind_value input (Shl a b) x y z = shl x.width x.value y.value
 kind_value input (Shr a b) x y z = shr x.width x.value y.value
+kind_value input (Udiv a b) x y z = udiv x.value y.value
+kind_value input (Urem a b) x y z = urem x.value y.value
 
 -- the word at a place of lists of widths and values
 abbrev pub word_at : List ℕ → List ℕ → ℕ → Word
@@ -222,6 +240,8 @@ abbrev pub charge_at : ℕ → Node → ℕ
 charge_at w (Times a b) = 4 * (w * w)
 charge_at w (Shl a b) = 16 * w
 charge_at w (Shr a b) = 16 * w
+charge_at w (Udiv a b) = 8 * (w * w)
+charge_at w (Urem a b) = 8 * (w * w)
 charge_at w n = 4 * w
 
 -- the charge of a node of a width, over children of the widths x, y and z

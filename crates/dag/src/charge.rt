@@ -5,9 +5,9 @@ ghost use Rattle.dag.specs.Node.{kind_charge as kind_charge_of, widest as widest
 
 use crate::node::Node;
 
-/// The charge of a node of a width over children of the widths `x`, `y` and `z`, at most 64 each: 4 w w for a product,
-/// 16 w for a shift and 4 w for every other kind, where w is the greatest of the widths. What is past the node's
-/// children isn't looked at.
+/// The charge of a node of a width over children of the widths `x`, `y` and `z`, at most 64 each: 8 w w for a quotient
+/// or a remainder, 4 w w for a product, 16 w for a shift and 4 w for every other kind, where w is the greatest of the
+/// widths. What is past the node's children isn't looked at.
 pub fn kind_charge(node: Node, width: u32, x: u32, y: u32, z: u32) -> u64
     requires own { width ≤ 64 }
     requires first { x ≤ 64 }
@@ -18,6 +18,7 @@ pub fn kind_charge(node: Node, width: u32, x: u32, y: u32, z: u32) -> u64
     let widest = widest(node.children().count, width, x, y, z) as u64;
     match node {
         Node::Times(..) => 4 * (widest * widest),
+        Node::Udiv(..) | Node::Urem(..) => 8 * (widest * widest),
         Node::Shl(..) | Node::Shr(..) => 16 * widest,
         _ => 4 * widest,
     }

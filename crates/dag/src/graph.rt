@@ -5,7 +5,7 @@ ghost use Rattle.std.specs.List.{Contains};
 ghost use Rattle.axe_io.specs.Shapes.{leaf_widths};
 ghost use Rattle.axe_io.specs.Inputs.{IsInput};
 ghost use Rattle.dag.specs.Node.{IsWord, node_width, node_value as node_value_of, form, width_by as width_by_of, word_at};
-ghost use Rattle.dag.specs.Graph.{Graph, IsGraph, HasValues, AreValues, Makes, Adds, AddFails, Costs, fits_width, leaves_of, node_values, first_graph, BeginFails, NoRepeats, Inserts, charge_in};
+ghost use Rattle.dag.specs.Graph.{Graph, IsGraph, HasValues, AreValues, Makes, Adds, AddFails, Costs, fits_width, leaves_of, node_values, first_graph, BeginFails, NoRepeats, Inserts, charge_in, HasWidth};
 ghost use Rattle.dag.specs.declared.node.Node.TheVariants.{Const};
 
 use crate::charge::kind_charge;
@@ -16,6 +16,7 @@ use axe_io::{Input, Shape};
 use indexmap::IndexSet;
 use std::alloc::{AllocError, AllocFailed, Global};
 use std::marker::Model;
+use thiserror::Error;
 
 /// A graph of word operations over the leaves of a shape. It holds each node once; places are counted from 0 in the
 /// order of adding, and a node's children stand before it. Node 0 is the constant 0 of width 1, and node 1 the 1.
@@ -38,11 +39,13 @@ impl Model for Dag {
 }
 
 /// Why a graph takes no further node.
-#[derive(Debug, Drop)]
+#[derive(Debug, Drop, Error)]
 pub enum DagError {
     /// The node is new, and the graph holds as many nodes as it may.
+    #[error("the graph holds its {limit} nodes")]
     Full { limit: u32 },
     /// Memory is wanting.
+    #[error("out of memory")]
     Memory,
 }
 
@@ -72,11 +75,12 @@ impl Dag {
 
     /// Hands out what holds of each graph: its nodes fit and don't repeat, each has a width from 1 to 64, and each
     /// input has values, which are those from front to back.
-    #[tactic(auto, using(crate::proofs::Values::has_values, crate::proofs::Growing::fits_at))]
+    #[tactic(auto, using(crate::proofs::Values::has_values, crate::proofs::Growing::fits_at, crate::proofs::Growing::place_inside))]
     pub fn known(&self)
         ensures graph { IsGraph self.now }
         ensures values { HasValues self.now }
         ensures fits { (k : ℕ) (n : _) → slice_get self.now.nodes k ≡ Some n → fits_width self.now n ≡ slice_get self.now.widths k }
+        ensures inside { (k w : ℕ) → HasWidth self.now.widths k w → k < length self.now.nodes }
     {
         let _nodes = &self.nodes;
     }
@@ -121,6 +125,13 @@ impl Dag {
         self.widths.get(id.0 as usize).copied()
     }
 
+    /// The widths of the nodes in their order, each from 1 to 64.
+    pub fn widths(&self) -> &[u32]
+        ensures { result.now ≡ self.now.widths }
+    {
+        &self.widths
+    }
+
     /// The shape whose leaves the graph reads.
     pub fn shape(&self) -> &Shape
         ensures { result.now ≡ self.now.shape }
@@ -152,8 +163,8 @@ impl Dag {
         self.width_of(node).is_some()
     }
 
-    /// The charge of a node that fits: what its bits cost. It is 4 w w for a product, 16 w for a shift and 4 w for
-    /// every other kind, where w is the greatest width of the node and its children.
+    /// The charge of a node that fits: what its bits cost. It is 8 w w for a quotient or a remainder, 4 w w for a
+    /// product, 16 w for a shift and 4 w for every other kind, where w is the greatest width of the node and its children.
     pub fn charge_of(&self, node: Node) -> u64
         requires { IsSome (fits_width self.now node) }
         ensures { result ≡ charge_in self.now node }

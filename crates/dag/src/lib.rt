@@ -3,7 +3,7 @@
 //! A node is a leaf of an input, a constant or an operation on words of 1 to 64 bits over nodes before it. A graph
 //! holds each node once, and a node's place is its id. On each input of the graph's shape every node has one value.
 //!
-//! - `node`: the 18 kinds of node, their children, and the forms by which widths go together
+//! - `node`: the 20 kinds of node, their children, and the forms by which widths go together
 //! - `width`: which widths fit a form, and the width that follows
 //! - `value`: the value of a kind from its children's words
 //! - `graph`: the graph itself

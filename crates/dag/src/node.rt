@@ -1,6 +1,6 @@
 //! The kinds of node.
 
-ghost use Rattle.std.specs.Prelude.{◌≡◌};
+ghost use Rattle.std.specs.Prelude.{◌≡◌, ◌↔◌, IsTrue};
 ghost use Rattle.dag.specs.Node.{child_at, leaf, one, two, three, no_node};
 
 /// The place of a node in its graph, counted from 0.
@@ -49,6 +49,10 @@ pub enum Node {
     Shl(NodeId, NodeId),
     /// The first child moved down by the second, an amount of any width; 0 from the first's width on.
     Shr(NodeId, NodeId),
+    /// The quotient of both as plain numbers, rounded down; 0 where the second is 0.
+    Udiv(NodeId, NodeId),
+    /// The remainder of the first by the second as plain numbers; the first where the second is 0.
+    Urem(NodeId, NodeId),
 }
 
 /// The children of a node in their order.
@@ -100,7 +104,7 @@ const NONE: NodeId = NodeId(0);
 
 impl Node {
     ghost use Rattle.std.specs.Prelude.{length, ◌≤◌};
-    ghost use Rattle.dag.specs.Node.{outline as outline_of, children as children_of, kind_number as kind_number_of, with_children as with_children_of};
+    ghost use Rattle.dag.specs.Node.{outline as outline_of, children as children_of, kind_number as kind_number_of, with_children as with_children_of, bare as bare_of};
 
     /// The number of the kind, the form and the children.
     pub fn outline(self) -> Outline
@@ -125,6 +129,8 @@ impl Node {
             Node::Sext { width, a } => kind(15, Form::Widened { width }, one(a)),
             Node::Shl(a, b) => kind(16, Form::Shifted, two(a, b)),
             Node::Shr(a, b) => kind(17, Form::Shifted, two(a, b)),
+            Node::Udiv(a, b) => kind(18, Form::Binary, two(a, b)),
+            Node::Urem(a, b) => kind(19, Form::Binary, two(a, b)),
         }
     }
 
@@ -168,8 +174,31 @@ impl Node {
             Node::Sext { width, .. } => Node::Sext { width, a },
             Node::Shl(..) => Node::Shl(a, b),
             Node::Shr(..) => Node::Shr(a, b),
+            Node::Udiv(..) => Node::Udiv(a, b),
+            Node::Urem(..) => Node::Urem(a, b),
         }
     }
+
+    /// The node without regard to its children, all of which are node 0: two nodes of one bare node have one value
+    /// where their children have equal words.
+    pub fn bare(self) -> Node
+        ensures { result ≡ bare_of self }
+    {
+        self.with_children(&[NONE; 3])
+    }
+
+    /// Whether two nodes are one without regard to their children.
+    pub fn is_like(self, other: Node) -> bool
+        ensures { IsTrue result ↔ (bare_of self ≡ bare_of other) }
+    {
+        are_same(self.bare(), other.bare())
+    }
+}
+
+fn are_same(node: Node, other: Node) -> bool
+    ensures { IsTrue result ↔ (node ≡ other) }
+{
+    node == other
 }
 
 fn kind(number: u32, form: Form, children: Children) -> Outline

@@ -43,6 +43,8 @@ pub fn kind_value(shape: &Shape, input: &[u64], node: Node, x: Word, y: Word, z:
         Node::Sext { width, .. } => sext_value(width, x),
         Node::Shl(..) => bv_words::shl(x.width, x.value, y.value),
         Node::Shr(..) => bv_words::shr(x.width, x.value, y.value),
+        Node::Udiv(..) => bv_words::udiv(x.width, x.value, y.value),
+        Node::Urem(..) => bv_words::urem(x.width, x.value, y.value),
     }
 }
 

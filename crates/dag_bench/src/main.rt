@@ -4,9 +4,19 @@
 //! `dag_bench values NODES INPUTS` finds the values of a graph of so many nodes on so many inputs. Both print the
 //! nanoseconds that one call, or one node's value, takes, and a number by which a run can be compared with another
 //! program's. Called otherwise, it says so. `scripts/bench-graph` calls it.
+//!
+//! Its tests are those of the graph and of the libraries on it: merge_table, rewriter and bit_blaster.
 #![tactic(auto)]
 
+#[cfg(test)]
+mod agreement;
+#[cfg(test)]
+mod building;
+#[cfg(test)]
+mod folding;
 mod graphs;
+#[cfg(test)]
+mod replacing;
 #[cfg(test)]
 mod tests;
 

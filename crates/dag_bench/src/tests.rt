@@ -124,6 +124,8 @@ fn children_by_kind(rt: HostRuntime) {
         (Node::Sext { width: 32, a }, 15, 1),
         (Node::Shl(a, b), 16, 2),
         (Node::Shr(a, b), 17, 2),
+        (Node::Udiv(a, b), 18, 2),
+        (Node::Urem(a, b), 19, 2),
     ];
     for (node, number, count) in nodes {
         assert_eq!(rt; node.kind_number(), number);
@@ -155,6 +157,10 @@ fn children_by_kind(rt: HostRuntime) {
         Node::Slice { high: 7, low: 1, a }
     );
     assert_eq!(rt; Node::Shr(c, a).with_children(&[a, b]), Node::Shr(a, b));
+    assert_eq!(rt; Node::Urem(c, a).with_children(&[a, b]), Node::Urem(a, b));
+    assert!(rt;
+        Node::Urem(c, a).is_like(Node::Urem(a, b)) && !Node::Urem(a, b).is_like(Node::Udiv(a, b))
+    );
 }
 
 /// The node of a kind of one or two children.
@@ -394,6 +400,10 @@ fn values_of_other_kinds(rt: HostRuntime) -> Result<(), Fail> {
         (Node::Sext { width: 8, a }, 0x9c),
         (Node::Shl(a, NodeId(1)), 0x38),
         (Node::Shr(a, NodeId(1)), 0x4e),
+        (Node::Udiv(a, b), 2),
+        (Node::Urem(a, b), 0x32),
+        (Node::Udiv(a, leaf), 0),
+        (Node::Urem(a, leaf), 0x9c),
         (Node::Not(leaf), 0xff),
     ];
     for (node, want) in cases {

@@ -8,7 +8,7 @@ use Rattle.std.proofs.lemmas.Bool.Decides.{nat_tests}
 use Rattle.std.proofs.lemmas.Bool.{cases_lt, eqb-true, eqb-false, ne_eqb}
 use Rattle.std.proofs.lemmas.List.{length-replicate, get_or-replicate, length-set}
 use Rattle.dag.specs.Graph.{Graph}
-use Rattle.merge_table.specs.Table.{IsFlat, IsCounted, renamed, replaced, count}
+use Rattle.merge_table.specs.Table.{IsFlat, IsCounted, renamed, replaced, count, classes, classes_from}
 use Rattle.merge_table.specs.KeepsValues.{AlwaysEqual, KeepsValues}
 
 some_same : (x y : ℕ) → Some x ≡ Some y → x ≡ y
@@ -68,7 +68,7 @@ counted_range n counts few e = record {
   few = omega (arith, few, length-range_with_len 0 n);
   sizes = ap length e ∙ length-replicate n 1 ∙ sym (length-range_with_len 0 n);
   ends = refl;
-  counted = λ k h. let p = range_at n k k h in ap (λ (xs : List ℕ). slice_index xs k) e ∙ get_or-replicate n k 1 0 p.0 ∙ sym (count_range 0 n k (omega arith) (omega (arith, p.0)));
+  counted = λ k h. let lt : k < n = omega (arith, h, length-range_with_len 0 n) in ap (λ (xs : List ℕ). slice_index xs k) e ∙ get_or-replicate n k 1 0 lt ∙ sym (count_range 0 n k (omega arith) (omega (arith, lt)));
   bounded = λ k r h. let p = range_at n k r h in omega (arith, get_or-range_with_len 0 n r 0 (omega (arith, p.0, p.1)), p.1);
   inside = λ k m h. let p = range_at n k m h in omega (arith, p.0, p.1, length-range_with_len 0 n);
 }
@@ -183,9 +183,20 @@ replaced_keeps g t keep gone h equal wide k-is g-is lt = record {
   ];
 }
 
+-- nothing is retained by `gone` any more
+count_gone : (keep gone : ℕ) (t : List ℕ) → keep < gone → count gone (replaced keep gone t) ≡ 0
+count_gone keep gone [] lt = refl
+count_gone keep gone (x ∷ xs) lt = let e : nat_eq (renamed keep gone x) gone ≡ false = ne_eqb _ _ (other x) in rw (e, count_gone keep gone xs lt) refl
+  where
+    other : (x : ℕ) → renamed keep gone x ≢ gone
+    other x is = elim (renamed_cases keep gone x) [
+      | inl p ↦ absurd (omega (arith, lt, is, p.1))
+      | inr p ↦ p.0 (sym p.1 ∙ is)
+    ]
+
 -- what is kept beside a table after a replacement
 pub replaced_counted : (t counts lasts : List ℕ) (keep gone : ℕ) → IsFlat t → IsCounted t counts lasts → slice_get t keep ≡ Some keep → slice_get t gone ≡ Some gone → keep < gone
-    → IsCounted (replaced keep gone t) (set counts keep (slice_index counts keep + slice_index counts gone)) (set lasts keep (max (slice_index lasts keep) (slice_index lasts gone)))
+    → IsCounted (replaced keep gone t) (set (set counts keep (slice_index counts keep + slice_index counts gone)) gone 0) (set lasts keep (max (slice_index lasts keep) (slice_index lasts gone)))
 replaced_counted t counts lasts keep gone flat c k-is g-is lt =
     let k-in : keep < length t = slice_get_within t keep keep k-is in
     let g-in : gone < length t = slice_get_within t gone gone g-is in
@@ -194,15 +205,18 @@ replaced_counted t counts lasts keep gone flat c k-is g-is lt =
     let gl : gone < length lasts = omega (arith, g-in, c.ends) in
     record {
       few = omega (arith, mapped_size (renamed keep gone) t, c.few);
-      sizes = length-set counts keep (slice_index counts keep + slice_index counts gone) ∙ c.sizes ∙ sym (mapped_size (renamed keep gone) t);
+      sizes = length-set (set counts keep (slice_index counts keep + slice_index counts gone)) gone 0 ∙ length-set counts keep (slice_index counts keep + slice_index counts gone) ∙ c.sizes ∙ sym (mapped_size (renamed keep gone) t);
       ends = length-set lasts keep (max (slice_index lasts keep) (slice_index lasts gone)) ∙ c.ends ∙ sym (mapped_size (renamed keep gone) t);
-      counted = λ k h. elim (get_set counts keep k (slice_index counts keep + slice_index counts gone) kc) [
-        | inl p ↦ p.1 ∙ sums (slice_index counts keep) (slice_index counts gone) _ _ (c.counted keep k-is) (c.counted gone g-is) ∙ sym (count_kept keep gone t lt) ∙ ap (λ (n : ℕ). count n (replaced keep gone t)) (sym p.0)
-        | inr p ↦ (let q = mapped_at (renamed keep gone) t k k h in elim (renamed_cases keep gone q.0) [
-          | inl r ↦ absurd (p.0 (q.2 ∙ r.1))
-          | inr r ↦ (let e : k ≡ q.0 = q.2 ∙ r.1 in p.1 ∙ c.counted k (q.1 ∙ ap Some (sym e)) ∙ sym (count_other keep gone k t p.0 (λ f. r.0 (sym e ∙ f))))
-        ])
-      ];
+      counted = λ k h.
+          let k-at : k < length t = omega (arith, h, mapped_size (renamed keep gone) t) in
+          let gc : gone < length (set counts keep (slice_index counts keep + slice_index counts gone)) = omega (arith, g-in, c.sizes, length-set counts keep (slice_index counts keep + slice_index counts gone)) in
+          elim (get_set (set counts keep (slice_index counts keep + slice_index counts gone)) gone k 0 gc) [
+            | inl p ↦ p.1 ∙ sym (count_gone keep gone t lt) ∙ ap (λ (n : ℕ). count n (replaced keep gone t)) (sym p.0)
+            | inr p ↦ p.1 ∙ elim (get_set counts keep k (slice_index counts keep + slice_index counts gone) kc) [
+              | inl q ↦ q.1 ∙ sums (slice_index counts keep) (slice_index counts gone) _ _ (c.counted keep k-in) (c.counted gone g-in) ∙ sym (count_kept keep gone t lt) ∙ ap (λ (n : ℕ). count n (replaced keep gone t)) (sym q.0)
+              | inr q ↦ q.1 ∙ c.counted k k-at ∙ sym (count_other keep gone k t q.0 p.0)
+            ]
+          ];
       bounded = λ k r h. let q = mapped_at (renamed keep gone) t k r h in elim (renamed_cases keep gone q.0) [
         | inl s ↦ (let e : r ≡ keep = q.2 ∙ s.1 in elim (get_set lasts keep r (max (slice_index lasts keep) (slice_index lasts gone)) kl) [
           | inl p ↦ (let b : k ≤ slice_index lasts q.0 = c.bounded k q.0 q.1 in let b2 : k ≤ slice_index lasts gone = subst (λ (n : ℕ). k ≤ slice_index lasts n) s.0 b in omega (arith, p.1, b2))
@@ -227,3 +241,57 @@ replaced_counted t counts lasts keep gone flat c k-is g-is lt =
 
     last_in : (k : ℕ) → k < length lasts → slice_index lasts k + 1 ≤ length t
     last_in k h = c.inside k (slice_index lasts k) (slice_get-get_or lasts k 0 h)
+
+-- each place of these is retained by no later one
+Before : ℕ → List ℕ → Type 0
+Before a t = (i r : ℕ) → slice_get t i ≡ Some r → r ≤ a + i
+
+before_rest : (a r : ℕ) (t : List ℕ) → Before a (r ∷ t) → Before (a + 1) t
+unfolding Before
+before_rest a r t h i s at = omega (arith, h (suc i) s at)
+
+-- whether a place retains itself changes at `gone` alone
+other_place : (keep gone k r : ℕ) → keep < gone → k ≢ gone → r ≤ k → nat_eq (renamed keep gone r) k ≡ nat_eq r k
+other_place keep gone k r lt ne le = elim (renamed_cases keep gone r) [
+  | inl p ↦ (let e : nat_eq keep k ≡ false = ne_eqb keep k (λ f. absurd (omega (arith, lt, le, p.0, f))) in let d : nat_eq r k ≡ false = ne_eqb r k (λ f. ne (sym f ∙ p.0)) in rw p.1 (e ∙ sym d))
+  | inr p ↦ rw p.1 refl
+]
+
+classes_kept : (keep gone a : ℕ) (t : List ℕ) → keep < gone → gone < a → Before a t → classes_from a (replaced keep gone t) ≡ classes_from a t
+unfolding Before
+classes_kept keep gone a [] lt past h = refl
+classes_kept keep gone a (r ∷ t) lt past h =
+    let le : r ≤ a = omega (arith, h 0 r refl) in
+    let ne : a ≢ gone = (λ e. absurd (omega (arith, past, e))) in
+    rw (other_place keep gone a r lt ne le, classes_kept keep gone (a + 1) t lt (omega arith) (before_rest a r t h)) refl
+
+classes_fall : (keep gone a d : ℕ) (t : List ℕ) → keep < gone → a + d ≡ gone → slice_get t d ≡ Some gone → Before a t → classes_from a (replaced keep gone t) + 1 ≡ classes_from a t
+unfolding Before
+classes_fall keep gone a d [] lt e at h = cc
+classes_fall keep gone a zero (r ∷ t) lt e at h =
+    let is : r ≡ gone = some_same r gone at in
+    let here : a ≡ gone = omega (arith, e) in
+    let new : nat_eq (renamed keep gone r) a ≡ false = (elim (renamed_cases keep gone r) [
+      | inl p ↦ rw p.1 (ne_eqb keep a (λ f. absurd (omega (arith, lt, here, f))))
+      | inr p ↦ absurd (p.0 is)
+    ]) in
+    let old : nat_eq r a ≡ true = grind (arith, nat_tests) in
+    rw (new, old, classes_kept keep gone (a + 1) t lt (omega (arith, here)) (before_rest a r t h)) (omega arith)
+classes_fall keep gone a (suc d) (r ∷ t) lt e at h =
+    let le : r ≤ a = omega (arith, h 0 r refl) in
+    let ne : a ≢ gone = (λ f. absurd (omega (arith, e, f))) in
+    let more : classes_from (a + 1) (replaced keep gone t) + 1 ≡ classes_from (a + 1) t = classes_fall keep gone (a + 1) d t lt (omega (arith, e)) at (before_rest a r t h) in
+    rw (other_place keep gone a r lt ne le) (omega (arith, more))
+
+-- a replacement makes one class less
+pub replaced_classes : (t : List ℕ) (keep gone : ℕ) → IsFlat t → slice_get t gone ≡ Some gone → keep < gone → classes (replaced keep gone t) + 1 ≡ classes t
+unfolding Before
+replaced_classes t keep gone flat g-is lt = classes_fall keep gone 0 gone t lt (zero_plus gone) g-is (λ i r at. omega (arith, flat.before i r at))
+
+classes_range : (a n : ℕ) → classes_from a (range_with_len a n) ≡ n
+classes_range a zero = refl
+classes_range a (suc n) = let e : nat_eq a a ≡ true = grind (arith, nat_tests) in rw (e, classes_range (a + 1) n) (omega arith)
+
+-- as many classes as nodes, where each is retained by itself
+pub range_classes : (n : ℕ) → classes (range_with_len 0 n) ≡ n
+range_classes n = classes_range 0 n

@@ -11,6 +11,3 @@
 mod table;
 
 pub use table::MergeTable;
-
-#[cfg(test)]
-mod tests;

@@ -3,7 +3,7 @@
 ghost use Rattle.std.specs.Prelude.{◌≡◌, ℕ, ◌+◌, ◌<◌, ◌≤◌, Some, IfOk, length, map, replicate, take, drop, slice_get};
 ghost use Rattle.std.specs.List.{range_with_len};
 ghost use Rattle.dag.specs.Graph.{Graph};
-ghost use Rattle.merge_table.specs.Table.{renamed, replaced, count};
+ghost use Rattle.merge_table.specs.Table.{renamed, replaced, count, classes};
 ghost use Rattle.merge_table.specs.KeepsValues.{AlwaysEqual, KeepsValues};
 
 use memory::Memory;
@@ -33,6 +33,7 @@ impl MergeTable {
     /// The table in which each of `n` nodes is retained by itself.
     pub fn begin(alloc: Global, n: u32) -> Result<MergeTable, Memory>
         ensures table { IfOk result (λ t. t ≡ range_with_len 0 n) }
+        ensures classes { IfOk result (λ t. classes t ≡ n) }
         ensures keeps { IfOk result (λ t. (g : Graph) → length g.nodes ≡ n → KeepsValues g t) }
     {
         let retained = places(alloc, n)?;
@@ -63,26 +64,30 @@ impl MergeTable {
         self.retained[n as usize]
     }
 
-    /// Has `keep` retain all that `gone` retained, and changes nothing else. Both are retained by themselves.
+    /// Has `keep` retain all that `gone` retained, and changes nothing else. Both are retained by themselves, so that
+    /// then one node less is.
     pub fn replace(&mut self, keep: u32, gone: u32)
         requires keep { slice_get self.old keep ≡ Some keep }
         requires gone { slice_get self.old gone ≡ Some gone }
         requires order { keep < gone }
         ensures table { self.new ≡ replaced keep gone self.old }
+        ensures falls { classes self.new + 1 ≡ classes self.old }
         ensures keeps { (g : Graph) → KeepsValues g self.old → AlwaysEqual g keep gone → slice_get g.widths keep ≡ slice_get g.widths gone → KeepsValues g self.new }
     {
         let last = self.lasts[gone as usize];
         rename(&mut self.retained, keep, gone, last);
         self.lasts[keep as usize] = self.lasts[keep as usize].max(last);
         self.counts[keep as usize] += self.counts[gone as usize];
+        self.counts[gone as usize] = 0;
     }
 
-    /// How many nodes a node that is retained by itself retains, itself among them.
-    pub fn members(&self, keep: u32) -> u32
-        requires { slice_get self.now keep ≡ Some keep }
-        ensures { result ≡ count keep self.now }
+    /// How many nodes a node retains, itself among them; 0 where another one retains it.
+    pub fn members(&self, n: u32) -> u32
+        requires { n < length self.now }
+        ensures { result ≡ count n self.now }
     {
-        self.counts[keep as usize]
+        let _retained = &self.retained;
+        self.counts[n as usize]
     }
 }
 

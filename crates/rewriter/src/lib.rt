@@ -8,8 +8,3 @@
 mod building;
 
 pub use building::{Charge, build};
-
-#[cfg(test)]
-mod agreement;
-#[cfg(test)]
-mod tests;

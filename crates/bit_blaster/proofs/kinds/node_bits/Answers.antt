@@ -6,4 +6,4 @@ pub returns-in_ok-out-in-Leaf : goal.returns-in_ok-out-in-Leaf
 returns-in_ok-out-in-Leaf c = rw c.in-Leaf.is (leaf_node _ _ _ _ _ _ (rw c.in-Leaf.is at c.requires.fits) c.in_ok-out-in-Leaf.ensures)
 
 pub returns-in_ok-out-in-Const : goal.returns-in_ok-out-in-Const
-returns-in_ok-out-in-Const c = rw c.in-Const.is (const_node _ _ _ _ _ _ c.requires.room (rw c.in-Const.is at c.requires.fits) c.in_ok-out-in-Const.ensures)
+returns-in_ok-out-in-Const c = rw c.in-Const.is (const_node _ _ _ _ _ _ c.requires.ready.room (rw c.in-Const.is at c.requires.fits) c.in_ok-out-in-Const.ensures)

@@ -4,7 +4,7 @@ ghost use Rattle.std.specs.Prelude.{◌∷◌, []};
 ghost use Rattle.dag.specs.declared.node.Node.TheVariants.{Leaf, Const};
 ghost use Rattle.bit_blaster.specs.Circuit.{IsCircuit};
 
-use crate::blast;
+use bit_blaster::blast;
 use dag::{Node, NodeId};
 use std::alloc::Global;
 use std::test::Fail;

@@ -1,6 +1,6 @@
 //! Replacements one after another, worked out by hand.
 
-use super::*;
+use merge_table::MergeTable;
 use std::process::Abort;
 use std::test::Fail;
 
@@ -33,5 +33,6 @@ fn a_chain_of_replacements(rt: HostRuntime) -> Result<(), Fail> {
     assert!(rt; table.len() == 6 && table.retained(0) == 0 && table.retained(1) == 1);
     assert_eq!(rt; table.members(0), 5);
     assert_eq!(rt; table.members(1), 1);
+    assert_eq!(rt; table.members(2), 0);
     Ok(())
 }

@@ -2,9 +2,9 @@
 
 ghost use Rattle.std.specs.Prelude.{ℕ, ◌≤◌, ◌^◌};
 
-use super::*;
 use axe_io::{Kind, OutPlace, Param, Shape};
 use dag::{Dag, DagError, Node, NodeId};
+use rewriter::{Charge, build};
 use std::alloc::{AllocError, Global};
 use std::process::Abort;
 use std::test::Fail;

@@ -3,7 +3,7 @@ use Rattle.dag.specs.declared.node.Node.{Node}
 use Rattle.dag.specs.declared.node.Node.TheVariants.{Leaf}
 use Rattle.bit_blaster.specs.NodeBits.{IsBlastedTo}
 use Rattle.bit_blaster.proofs.Blasting.{blasted_none, blasted_more, blasted_all}
-use Rattle.bit_blaster.proofs.circuits.blast_some.Goals as goal
+use Rattle.bit_blaster.proofs.circuits.blast_affordable.Goals as goal
 
 pub loop-node-init : goal.loop-node-init
 loop-node-init c = rw c.in_ok-formula.ensures (blasted_none _ _ _ refl refl c.new-rows.ensures c.requires.fits)

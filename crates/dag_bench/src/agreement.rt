@@ -2,9 +2,9 @@
 
 ghost use Rattle.std.specs.Prelude.{◌≤◌};
 
-use super::*;
 use axe_io::{Kind, OutPlace, Param, Shape};
 use dag::{Dag, DagError, Node, NodeId};
+use rewriter::{Charge, build};
 use std::alloc::{AllocError, Global};
 use std::process::Abort;
 use std::test::Fail;
@@ -127,6 +127,8 @@ fn expected(node: Node, width: u32, x: Sized, y: Sized, z: Sized) -> u64 {
                 cut(64, wide_x / modulus(y.min(64) as u32))
             }
         }
+        Node::Udiv(..) => u64::checked_div(x, y).unwrap_or(0),
+        Node::Urem(..) => u64::checked_rem(x, y).unwrap_or(x),
     }
 }
 
@@ -154,7 +156,7 @@ fn drawn(numbers: &mut Numbers, count: u32) -> Node {
     let width = [1, 3, 5, 8, 16, 24, 32, 64][(numbers.below(8) % 8) as usize];
     let low = numbers.below(32);
     let high = low.wrapping_add(numbers.below(16));
-    match numbers.below(18) {
+    match numbers.below(20) {
         0 => constant(numbers, width),
         1 => Node::Not(a),
         2 => Node::And(a, b),
@@ -172,6 +174,8 @@ fn drawn(numbers: &mut Numbers, count: u32) -> Node {
         14 => Node::Sext { width, a },
         15 => Node::Shl(a, b),
         16 => Node::Shr(a, b),
+        17 => Node::Udiv(a, b),
+        18 => Node::Urem(a, b),
         _ => Node::Xor(a, a),
     }
 }
