@@ -1,0 +1,10 @@
+pub mod Modular
+pub mod Weighing
+pub mod PartLaws
+pub mod Differing
+pub mod Taking
+pub mod Valuing
+pub mod Filling
+pub mod ExclusiveOrLaws
+pub mod OverlapLaws
+pub mod OperandLaws

@@ -1,0 +1,10 @@
+use Rattle.std.proofs.Common.{◌≡◌, ◌^◌, ◌-◌, ap, ℕ, ◌∙◌}
+use Rattle.bv_words.specs.Words.{times}
+use Rattle.word_check.specs.declared.sums.Term.{Term}
+use Rattle.word_check.proofs.PartLaws.{not_parts}
+use Rattle.word_check.proofs.parts.turned.Goals as goal
+
+pub returns : goal.returns
+returns c =
+    let e : c.times-opposite.result ≡ times c.args.width c.args.term.factor (2 ^ c.args.width - 1) = c.times-opposite.ensures.value ∙ ap (times c.args.width c.args.term.factor) c.mask.ensures in
+    not_parts _ _ _ c.args.term c.args.a _ _ c.requires.is c.in_ok-wraps.ensures.0 c.in_ok-wraps.ensures.1 (c.constant.ensures.constant ∙ e) (ap (λ (k : ℕ). let t : Term = record { factor = k; place = c.args.a.0 } in t) e) c.constant.ensures.right
