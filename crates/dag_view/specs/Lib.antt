@@ -1,2 +1,4 @@
 pub mod View
-pub mod Cone
+pub mod Under
+pub mod Made
+pub mod Steps

@@ -1,21 +1,23 @@
 //! A view, and whether a graph still has it.
 
-ghost use Rattle.std.specs.Prelude.{◌≡◌, false, ◌<◌, ◌≤◌, ℕ, List, Some, None, IfOk, OnOk, IfErr, length, slice_get, slice_index};
-ghost use Rattle.dag.specs.Graph.{AreValues};
+ghost use Rattle.std.specs.Prelude.{◌≡◌, ◌<◌, ◌≤◌, ◌+◌, ℕ, List, IsTrue, true, false, Some, None, IfOk, OnOk, IfErr, length, slice_get, slice_index};
 ghost use Rattle.axe_io.specs.Shapes.{leaf_widths};
-ghost use Rattle.bit_blaster.specs.Circuit.{IsCircuit, HaveValues, widths_of};
-ghost use Rattle.merge_table.specs.KeepsValues.{KeepsValues};
-ghost use Rattle.dag_view.specs.View.{IsView, IsUnder, IsTableOf, HasDefinition, HasChildren, Embeds, IsOtherChild, HasMisfit, values_at, arity, nth_child, bare};
+ghost use Rattle.bit_blaster.specs.Circuit.{IsCircuit, widths_of};
+ghost use Rattle.dag_view.specs.View.{IsView, IsUnder, IsTableOf, IsWhole, HasFree, Embeds, StandBefore, HasMisfit, HasMisfitAt, HasGraphValues};
+ghost use Rattle.dag_view.specs.Steps.{IsCutAt};
+ghost use Rattle.dag_view.specs.Under.{IsBySet};
 
-use crate::cone::{Placed, place};
-use crate::marks::marked;
+use crate::expanded::Expanded;
+use crate::misfit::{Misfit, is_free, same_children, same_kind, same_width};
+use crate::place::place;
+use crate::steps::nodes_within;
 use dag::{Dag, Node, NodeId};
 use memory::Memory;
 use merge_table::MergeTable;
 use std::alloc::Global;
 use std::marker::Model;
 
-/// The nodes under a pair of a graph's nodes as a circuit, in rising order of their places in the graph.
+/// Nodes under a pair of a graph's nodes as a circuit, in rising order of their places in the graph.
 #[derive(Drop)]
 pub struct View {
     nodes: Vec<Node>,
@@ -38,26 +40,6 @@ impl Model for View {
     ghost invariant = { λ v. IsView (record { nodes = v.nodes.items; widths = v.widths.items; ids = v.ids.items; first = v.first; second = v.second; a = v.a.0; b = v.b.0; leaves = v.leaves }) };
 }
 
-/// A node that a graph no longer has as a view has seen it.
-#[derive(Clone, Copy, Debug)]
-pub enum Misfit {
-    /// The child at position `child` of the graph's node `node`: `seen` retains the child that was seen, and `now`
-    /// the one that the graph has.
-    Child {
-        node: u32,
-        child: u32,
-        seen: u32,
-        now: u32,
-    },
-    /// The graph's node `node` has another definition without regard to children, or another width, than was seen;
-    /// None where there is no such node.
-    Definition {
-        node: u32,
-        seen: Node,
-        now: Option<Node>,
-    },
-}
-
 impl View {
     /// The nodes, whose children are places in this list. They are a circuit.
     pub fn nodes(&self) -> &[Node]
@@ -68,6 +50,13 @@ impl View {
     {
         let _widths = &self.widths;
         &self.nodes
+    }
+
+    /// The widths of the nodes.
+    pub fn widths(&self) -> &[u32]
+        ensures { result.now ≡ self.now.widths }
+    {
+        &self.widths
     }
 
     /// The places of the two nodes in this list.
@@ -86,11 +75,27 @@ impl View {
         (self.a, self.b)
     }
 
-    /// Whether a node became a free leaf. No view has such a node yet.
+    /// Whether a node became a free leaf.
     pub fn is_cut(&self) -> bool
-        ensures { result ≡ false }
+        ensures cut { IsTrue result → HasFree self.now }
+        ensures whole { result ≡ false → IsWhole self.now }
     {
+        for k in 0..self.nodes.len() {
+            if self.is_free_at(k) {
+                return true;
+            }
+        }
         false
+    }
+
+    /// Whether the node at a place is a free leaf.
+    fn is_free_at(&self, k: usize) -> bool
+        requires { k < length self.now.nodes }
+        ensures free { IsTrue result → HasFree self.now }
+        ensures own { result ≡ false → (w i : ℕ) → slice_get self.now.nodes k ≡ Some (Node.Leaf w i) → i < self.now.leaves }
+    {
+        let (node, _, _) = self.seen_at(k);
+        is_free(node, self.leaves())
     }
 
     /// The number of the shape's leaves.
@@ -100,42 +105,79 @@ impl View {
         self.leaves
     }
 
-    /// Whether a graph and its table have what the view has seen: at each place the same definition and width, and
-    /// children that are retained by the same nodes. Then the view's nodes have the graph's values on each input. A
-    /// misfit is the first in the view's order, the definition before the children, and these in their order.
+    /// Whether a graph and its table have what the view has seen: for a free leaf a node of its width, and for each
+    /// other node the same definition, and children that are retained by the same nodes. Then the view's nodes have the
+    /// graph's values on each input, the free leaves those of their nodes. A misfit is the first in the view's order,
+    /// the definition before the children, and these in their order.
     pub fn embeds(&self, dag: &Dag, table: &MergeTable) -> Result<(), Misfit>
         requires { IsTableOf dag.now table.now }
         ensures embeds { OnOk result (Embeds dag.now table.now self.now) }
         ensures misfit { IfErr result (HasMisfit dag.now table.now self.now) }
-        ensures values { OnOk result (KeepsValues dag.now table.now → (input values : List ℕ) → AreValues dag.now input values → HaveValues input self.now.nodes self.now.widths (values_at self.now.ids values)) }
+        ensures values { OnOk result (HasGraphValues dag.now table.now self.now) }
     {
         dag.known();
         for k in 0..self.nodes.len() {
-            let seen = self.nodes[k];
-            let width = self.widths[k];
-            let id = self.ids[k];
-            let now = match same_definition(dag, seen, width, id) {
-                Ok(now) => now,
-                Err(misfit) => return Err(misfit),
-            };
-            if let Err(misfit) = same_children(table, &self.ids, id, seen, now) {
+            if let Err(misfit) = self.stands_at(dag, table, k) {
                 return Err(misfit);
             }
         }
         Ok(())
     }
 
-    /// The view of two nodes of one width: their definitions and those under them, and no others, where each child is
-    /// replaced by the node that retains it. No node is cut yet: `cut` is None.
-    pub fn cone(
+    /// Whether the node at a place stands for its node of a graph, where those before it do.
+    fn stands_at(&self, dag: &Dag, table: &MergeTable, k: usize) -> Result<(), Misfit>
+        requires table { IsTableOf dag.now table.now }
+        requires inside { k < length self.now.nodes }
+        requires before { StandBefore dag.now table.now self.now k }
+        ensures ok { OnOk result (StandBefore dag.now table.now self.now (k + 1)) }
+        ensures err { IfErr result (HasMisfitAt dag.now table.now self.now k) }
+    {
+        dag.known();
+        let (seen, width, id) = self.seen_at(k);
+        if is_free(seen, self.leaves()) {
+            if let Err(misfit) = same_width(dag, seen, width, id) {
+                return Err(misfit);
+            }
+            return Ok(());
+        }
+        let now = match same_kind(dag, seen, id) {
+            Ok(now) => now,
+            Err(misfit) => return Err(misfit),
+        };
+        if let Err(misfit) = same_children(table, self.seen_ids(), id, seen, now) {
+            return Err(misfit);
+        }
+        Ok(())
+    }
+
+    /// The node at a place, its width, and the graph's node that it stands for.
+    fn seen_at(&self, k: usize) -> (Node, u32, u32)
+        requires { k < length self.now.nodes }
+        ensures node { slice_get self.now.nodes k ≡ Some result.0 }
+        ensures width { result.1 ≡ slice_index self.now.widths k }
+        ensures id { result.2 ≡ slice_index self.now.ids k }
+        ensures known { IsView self.now }
+    {
+        (self.nodes[k], self.widths[k], self.ids[k])
+    }
+
+    /// The graph's nodes that the nodes stand for.
+    fn seen_ids(&self) -> &[u32]
+        ensures { result.now ≡ self.now.ids }
+    {
+        &self.ids
+    }
+
+    /// The view of two nodes of one width by a set: the two and what retains a child of each expanded node that is met,
+    /// and no others. Those that are expanded stand with their definitions, each other one is a free leaf.
+    pub fn by_set(
         alloc: Global,
         dag: &Dag,
         table: &MergeTable,
         a: NodeId,
         b: NodeId,
-        cut: Option<u32>,
+        expanded: &Expanded,
     ) -> Result<View, Memory>
-        requires whole { cut ≡ None }
         requires first { a.0 < length dag.now.nodes }
         requires second { b.0 < length dag.now.nodes }
         requires width { slice_get dag.now.widths a.0 ≡ slice_get dag.now.widths b.0 }
@@ -145,100 +187,47 @@ impl View {
         ensures leaves { IfOk result (λ v. v.leaves ≡ length (leaf_widths dag.now.shape.params)) }
         ensures embeds { IfOk result (Embeds dag.now table.now) }
         ensures under { IfOk result IsUnder }
+        ensures by_set { IfOk result (IsBySet expanded.now) }
     {
-        let _cut = cut;
-        dag.known();
-        let marks = marked(alloc, dag, table, a.0, b.0)?;
-        let mut placed = Placed {
-            nodes: Vec::new(alloc),
-            widths: Vec::new(alloc),
-            ids: Vec::new(alloc),
-            places: vec![in alloc; 0; marks.len()]?,
-        };
-        for k in 0..marks.len() {
-            place(dag, table, &marks, &mut placed, k as u32)?;
-        }
-        let first = placed.places[a.0 as usize];
-        let second = placed.places[b.0 as usize];
+        let placed = place(alloc, dag, table, a.0, b.0, expanded)?;
         Ok(View {
             nodes: placed.nodes,
             widths: placed.widths,
             ids: placed.ids,
-            first,
-            second,
+            first: placed.first,
+            second: placed.second,
             a,
             b,
-            leaves: dag.shape().leaves(),
+            leaves: placed.leaves,
         })
     }
-}
 
-/// A node without regard to its children.
-fn bare(node: Node) -> Node
-    ensures { result ≡ bare node }
-{
-    node.with_children(&[NodeId(0); 3])
-}
-
-/// The node of a graph at a place, where it has this definition and width.
-fn same_definition(dag: &Dag, seen: Node, width: u32, id: u32) -> Result<Node, Misfit>
-    ensures ok { IfOk result (HasDefinition dag.now seen width id) }
-    ensures err { IfErr result (λ e. (e ≡ Misfit.Definition id seen (slice_get dag.now.nodes id)) × ((n : _) → HasDefinition dag.now seen width id n → ⊥)) }
-{
-    let found = dag.node_at(NodeId(id));
-    let Some(now) = found else {
-        return Err(Misfit::Definition {
-            node: id,
-            seen,
-            now: found,
-        });
-    };
-    if bare(now) != bare(seen) {
-        return Err(Misfit::Definition {
-            node: id,
-            seen,
-            now: found,
-        });
+    /// The view of two nodes of one width with the definitions under them, each child replaced by the node that retains
+    /// it. With a number of steps a node whose shortest way down has that many is a free leaf.
+    pub fn cone(
+        alloc: Global,
+        dag: &Dag,
+        table: &MergeTable,
+        a: NodeId,
+        b: NodeId,
+        cut: Option<u32>,
+    ) -> Result<View, Memory>
+        requires first { a.0 < length dag.now.nodes }
+        requires second { b.0 < length dag.now.nodes }
+        requires width { slice_get dag.now.widths a.0 ≡ slice_get dag.now.widths b.0 }
+        requires table { IsTableOf dag.now table.now }
+        ensures first { IfOk result (λ v. v.a ≡ a.0) }
+        ensures second { IfOk result (λ v. v.b ≡ b.0) }
+        ensures leaves { IfOk result (λ v. v.leaves ≡ length (leaf_widths dag.now.shape.params)) }
+        ensures embeds { IfOk result (Embeds dag.now table.now) }
+        ensures under { IfOk result IsUnder }
+        ensures cut { IfOk result (IsCutAt dag.now table.now a.0 b.0 cut) }
+    {
+        let Some(steps) = cut else {
+            return View::by_set(alloc, dag, table, a, b, &Expanded::All);
+        };
+        let set = Expanded::Only(nodes_within(alloc, dag, table, a.0, b.0, steps)?);
+        let view = View::by_set(alloc, dag, table, a, b, &set)?;
+        Ok(view)
     }
-    if dag.width_at(NodeId(id)) != Some(width) {
-        return Err(Misfit::Definition {
-            node: id,
-            seen,
-            now: found,
-        });
-    }
-    Ok(now)
-}
-
-/// Whether the children that were seen, which are places of `ids`, and those of a graph's node are retained by the
-/// same nodes.
-fn same_children(
-    table: &MergeTable,
-    ids: &[u32],
-    id: u32,
-    seen: Node,
-    now: Node,
-) -> Result<(), Misfit>
-    requires arity { arity now ≡ arity seen }
-    requires places { (i : ℕ) → i < arity seen → nth_child seen i < length ids.now }
-    requires seen { (i : ℕ) → i < arity seen → slice_index ids.now (nth_child seen i) < length table.now }
-    requires now { (i : ℕ) → i < arity seen → nth_child now i < length table.now }
-    ensures ok { OnOk result (HasChildren table.now ids.now seen now) }
-    ensures err { IfErr result (IsOtherChild table.now ids.now id seen now) }
-{
-    let old = seen.children();
-    let new = now.children();
-    for i in 0..old.count as usize {
-        let before = table.retained(ids[old.ids[i].0 as usize]);
-        let after = table.retained(new.ids[i].0);
-        if before != after {
-            return Err(Misfit::Child {
-                node: id,
-                child: i as u32,
-                seen: before,
-                now: after,
-            });
-        }
-    }
-    Ok(())
 }

@@ -9,9 +9,8 @@ use Rattle.clause_log.specs.Line.{Line}
 use Rattle.clause_log.specs.Log.{EachFollows, Refutes, all_clauses, IsSpentLog}
 use Rattle.bit_blaster.specs.Gates.{Meets}
 use Rattle.bit_blaster.specs.Spelling.{spelled}
-use Rattle.bit_blaster.specs.Numbers.{bit}
 use Rattle.bit_blaster.specs.NodeBits.{IsLeafOf, AreLeaves, widths}
-use Rattle.bit_blaster.specs.Circuit.{HaveWidths, FitsLeaf, FitsLeaves, widths_of, values_of}
+use Rattle.bit_blaster.specs.Circuit.{HaveWidths, FitsLeaf, FitsLeaves, values_of}
 use Rattle.bit_blaster.proofs.Arithmetic.{number_below}
 use Rattle.bit_blaster.proofs.Growing.{length-bits}
 use Rattle.bit_blaster.specs.Gates.{bits}
@@ -20,16 +19,16 @@ use Rattle.dag.specs.declared.node.Node.{Node}
 use Rattle.dag.specs.declared.node.Node.TheVariants.{Leaf}
 use Rattle.dag.proofs.Lists.{snoc_cases}
 use Rattle.dag.proofs.Inverting.{when_some}
-use Rattle.dag_view.specs.View.{ViewParts, IsView}
-use Rattle.view_proof.specs.Question.{Asks, question_nodes}
+use Rattle.dag_view.specs.View.{ViewParts, IsView, IsWhole}
+use Rattle.view_proof.specs.Question.{Asks, AsksApart, question_nodes, refuted}
 use Rattle.clause_log.specs.Log.{ClauseLog}
 use Rattle.clause_search.specs.Found.{IsRefutation}
-use Rattle.view_proof.specs.Checked.{AreEqualEnds, IsChecked}
+use Rattle.view_proof.specs.Checked.{AreEqualEnds, IsChecked, IsSpentProof}
 use Rattle.view_proof.specs.Reading.{IsRead, AreSingle}
 use Rattle.view_proof.specs.Answer.{SetsApart, IsAnswer}
 use Rattle.view_proof.specs.declared.answer.Answer.{Answer}
 use Rattle.view_proof.specs.declared.answer.Answer.TheVariants.{Model, Refuted, Spent}
-use Rattle.view_proof.proofs.Asking.{question_widths, question_circuit, row_width, widths_are, last_width, last_value, fits_more, asks_sound, asks_reached, no_model}
+use Rattle.view_proof.proofs.Asking.{question_widths, question_circuit, row_width, widths_are, apart_sound, apart_reached, asks_sound, asks_reached, no_model}
 
 pub fits_from : (input : List ℕ) (ns : List Node) → ((k w i : ℕ) → slice_get ns k ≡ Some (Leaf w i) → slice_index input i < 2 ^ w) → FitsLeaves input ns
 fits_from input [] h = tt
@@ -80,36 +79,28 @@ front_fits : (input : List ℕ) (ns : List Node) (n : Node) → FitsLeaves input
 front_fits input [] n h = tt
 front_fits input (m ∷ ms) n h = (h.0, front_fits input ms n h.1)
 
--- the row of the last node of a view's question
-last_row : (v : ViewParts) (value : Bool) (f : Cnf) (rows : List (List Literal)) → IsView v → Asks (question_nodes v) (length v.nodes) value f rows → (length (get_or rows (length v.nodes) []) ≡ 1) × (length v.nodes < length rows)
-last_row v value f rows is q = row_width rows (widths_of (question_nodes v)) (length v.nodes) 1 q.blasted.widths (last_width (question_nodes v) v.widths (length v.nodes) (question_circuit v is).1 (sym is.widths.size))
-
 -- a model of a view's question is an input at which its two nodes differ
-pub model_apart : (v : ViewParts) (f : Cnf) (rows : List (List Literal)) (a : ℕ → Bool) (input : List ℕ) → IsView v → Asks (question_nodes v) (length v.nodes) false f rows → Meets a f → IsRead a rows v.nodes (length v.nodes) v.leaves input → SetsApart v input
+pub model_apart : (v : ViewParts) (f : Cnf) (rows : List (List Literal)) (a : ℕ → Bool) (input : List ℕ) → IsView v → AsksApart v f rows → Meets a f → IsRead a rows v.nodes (length v.nodes) v.leaves input → SetsApart v input
 model_apart v f rows a input is q m r =
-    let s = spells a rows (question_nodes v) (v.widths ++ 1 ∷ []) input (question_widths v is) (q.blasted.widths ∙ (question_circuit v is).1) (λ k w i at. let p = question_leaf v k w i at in r.leaf k w i (slice_get_within v.nodes k _ p) p) in
-    let row = last_row v false f rows is q in
-    let zero_is = sym (last_value v input) ∙ asks_sound (question_nodes v) (length v.nodes) false f rows a input q row.0 row.1 m s.leaves in
+    let s = spells a rows (question_nodes v) (v.widths ++ slice_index v.widths v.first ∷ []) input (question_widths v is) (q.blasted.widths ∙ (question_circuit v is).1) (λ k w i at. let p = question_leaf v k w i at in r.leaf k w i (slice_get_within v.nodes k _ p) p) in
     record {
       size = r.size;
       fits = front_fits input v.nodes _ s.fits;
-      rest = r.rest;
-      apart = λ e. one_zero _ (eq-eqb _ _ e) zero_is;
+      apart = apart_sound v f rows a input q m s.leaves;
     }
-  where
-    one_zero : (b : Bool) → b ≡ true → bit b ≡ 0 → ⊥
-    one_zero true e z = absurd (omega (arith, z))
-    one_zero false e z = cc
 
 -- where a view's question has no model its two nodes are equal
-pub refuted_equal : (v : ViewParts) (f : Cnf) (rows : List (List Literal)) (ls : List Line) → IsView v → Asks (question_nodes v) (length v.nodes) false f rows → EachFollows f.clauses ls → Refutes (all_clauses f.clauses ls) → AreEqualEnds v
-refuted_equal v f rows ls is q follows empty input fits = tested (nat_eq (slice_index (values_of input v.nodes) v.first) (slice_index (values_of input v.nodes) v.second)) refl
+pub refuted_equal : (v : ViewParts) (f : Cnf) (rows : List (List Literal)) (ls : List Line) → AsksApart v f rows → EachFollows f.clauses ls → Refutes (all_clauses f.clauses ls) → AreEqualEnds v
+refuted_equal v f rows ls q follows empty input fits = tested (nat_eq (slice_index (values_of input v.nodes) v.first) (slice_index (values_of input v.nodes) v.second)) refl
   where
+    other : (b : Bool) → b ≡ true → b ≡ false → ⊥
+    other true p q = cc
+    other false p q = cc
+
     tested : (b : Bool) → nat_eq (slice_index (values_of input v.nodes) v.first) (slice_index (values_of input v.nodes) v.second) ≡ b → slice_index (values_of input v.nodes) v.first ≡ slice_index (values_of input v.nodes) v.second
     tested true e = eqb-true _ _ e
     tested false e =
-        let row = last_row v false f rows is q in
-        let w = asks_reached (question_nodes v) (length v.nodes) false f rows input q row.0 row.1 (fits_more input v.nodes v.first v.second fits) (last_value v input ∙ ap bit e) in
+        let w = apart_reached v f rows input q fits (λ same. other _ (eq-eqb _ _ same) e) in
         absurd (no_model w.0 f ls follows empty w.1)
 
 -- a model of the question of a view's first node, and the input that it spells
@@ -130,14 +121,24 @@ refuted_never v f rows ls input is one q follows empty fits at =
     let w = asks_reached v.nodes v.first true f rows input q row.0 row.1 fits at in
     no_model w.0 f ls follows empty w.1
 
-pub view_single : (v : ViewParts) → IsView v → AreSingle v.nodes v.leaves
-view_single v is = record { leaf_in = is.leaf_in; single = is.single }
+pub view_single : (v : ViewParts) → IsView v → IsWhole v → AreSingle v.nodes v.leaves
+view_single v is whole = record { leaf_in = whole; single = is.single }
 
 -- a refutation of a view's question makes a checked pair
-pub checked_from : (v : ViewParts) (f : Cnf) (rows : List (List Literal)) (lines : ℕ) (log : ClauseLog) → IsView v → Asks (question_nodes v) (length v.nodes) false f rows → log.formula ≡ f → IsRefutation lines log → IsChecked (record { view = v; log = log })
-checked_from v f rows lines log is q same r =
-    let p : Asks (question_nodes v) (length v.nodes) false log.formula rows = subst (λ (g : Cnf). Asks (question_nodes v) (length v.nodes) false g rows) (sym same) q in
-    record { equal = refuted_equal v log.formula rows log.lines is p r.follows r.refutes; question = (rows, p); follows = r.follows; new = r.new; refutes = r.refutes }
+pub checked_from : (v : ViewParts) (f : Cnf) (rows : List (List Literal)) (lines : ℕ) (log : ClauseLog) → AsksApart v f rows → log.formula ≡ f → IsRefutation lines log → IsChecked (record { view = v; log = log })
+checked_from v f rows lines log q same r =
+    let p : AsksApart v log.formula rows = subst (λ (g : Cnf). AsksApart v g rows) (sym same) q in
+    record { equal = refuted_equal v log.formula rows log.lines p r.follows r.refutes; question = (rows, inl p); follows = r.follows; new = r.new; refutes = r.refutes }
+
+-- nodes that never differ are a checked pair at once
+pub checked_at_once : (v : ViewParts) (log : ClauseLog) → AreEqualEnds v → log ≡ record { formula = refuted; lines = [] } → IsChecked (record { view = v; log = log })
+checked_at_once v log never is = subst (λ (l : ClauseLog). IsChecked (record { view = v; log = l })) (sym is) (record {
+  equal = never;
+  question = ([], inr (record { never = never; made = refl }));
+  follows = λ j d lt. absurd (omega (arith, lt));
+  new = λ j d lt. absurd (omega (arith, lt));
+  refutes = (0, omega arith, refl);
+})
 
 -- what is answered of a model, with the nodes and leaves that were given
 pub is_model : (f : Cnf) (rows : List (List Literal)) (ns nodes : List Node) (leaves count lines : ℕ) (answer : Answer) (input : List ℕ) → answer ≡ Model input → ns ≡ nodes → leaves ≡ count → IsAnswer f rows ns leaves lines answer → (a : ℕ → Bool) × Meets a f × IsRead a rows nodes (length nodes) count input
@@ -150,3 +151,10 @@ is_refuted f rows ns leaves lines answer log is h = subst (λ (x : Answer). IsAn
 
 pub is_spent : (f : Cnf) (rows : List (List Literal)) (ns : List Node) (leaves lines : ℕ) (answer : Answer) (log : ClauseLog) → answer ≡ Spent log → IsAnswer f rows ns leaves lines answer → (log.formula ≡ f) × IsSpentLog lines log
 is_spent f rows ns leaves lines answer log is h = subst (λ (x : Answer). IsAnswer f rows ns leaves lines x) is h
+
+-- a spent log of a view's question makes a spent proof
+pub spent_from : (v : ViewParts) (f : Cnf) (rows : List (List Literal)) (lines : ℕ) (log : ClauseLog) → AsksApart v f rows → log.formula ≡ f → IsSpentLog lines log → IsSpentProof (record { view = v; log = log })
+spent_from v f rows lines log q same spent = record {
+  question = (rows, inl (subst (λ (g : Cnf). AsksApart v g rows) (sym same) q));
+  spent = subst (λ (n : ℕ). IsSpentLog n log) (sym spent.lines) spent;
+}

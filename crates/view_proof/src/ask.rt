@@ -1,18 +1,20 @@
 //! The questions of a view and of a path, as formulas.
 
-ghost use Rattle.std.specs.Prelude.{◌≡◌, ◌<◌, ◌≤◌, ◌++◌, ◌∷◌, [], false, Some, IfOk, OnOk, IfErr, length, slice_get};
+ghost use Rattle.std.specs.Prelude.{◌≡◌, ◌<◌, ◌≤◌, ◌++◌, ◌∷◌, [], false, Some, IsTrue, IfOk, OnOk, IfErr, length, slice_get};
 ghost use Rattle.cnf_clauses.specs.Literal.{opposite};
 ghost use Rattle.bit_blaster.specs.Circuit.{IsCircuit, widths_of, units, most_units};
 ghost use Rattle.bit_blaster.specs.NodeBits.{BlastFails};
 ghost use Rattle.dag_view.specs.View.{IsView};
-ghost use Rattle.view_proof.specs.Question.{Asks, having, question_nodes};
+ghost use Rattle.word_check.specs.Valuation.{NeverDiffer};
+ghost use Rattle.view_proof.specs.Question.{Asks, AsksApart, AsksOf, IsOpenQuestion, having, question_nodes, refuted as refuted_of};
 
-use bit_blaster::{BlastError, Blasted, blast};
+use bit_blaster::{BlastError, Blasted, MOST_UNITS, blast, blast_affordable, is_affordable};
 use cnf_clauses::{Formula, Lit, Rows};
 use dag::{Node, NodeId};
 use dag_view::View;
 use memory::Memory;
 use std::alloc::Global;
+use word_check::never_differ;
 
 /// A circuit's formula with one clause more, which says what a bit of it is.
 #[derive(Drop)]
@@ -23,25 +25,76 @@ pub struct Question {
     pub rows: Rows<Lit>,
 }
 
-/// The question of a view: the formula of its nodes and of a last one, which is 1 where its two nodes are equal, and
-/// the clause that this one is 0. So each model is an input on which they differ, and each such input has a model.
-/// TooMany exactly where the charges of all these nodes, the last among them, pass 16,777,216 units.
+/// The question of a view: a formula whose models are the inputs on which its two nodes differ. Where words alone tell
+/// that they never do, it is the empty clause alone; else it is the formula of the view's nodes and of a last one, the
+/// bits in which the two differ, and the clause that some of these is 1. TooMany exactly where the charges of the view's
+/// nodes together pass 16,777,216 units: the last one lies behind the limit.
 pub fn question_of(alloc: Global, view: &View) -> Result<Question, BlastError>
-    ensures asks { IfOk result (λ q. Asks (question_nodes view.now) (length view.now.nodes) false q.formula q.rows) }
-    ensures few { OnOk result (units (question_nodes view.now) ≤ most_units) }
-    ensures cause { IfErr result (BlastFails (question_nodes view.now)) }
+    ensures asks { IfOk result (λ q. AsksOf view.now q.formula q.rows) }
+    ensures few { OnOk result (units view.now.nodes ≤ most_units) }
+    ensures cause { IfErr result (BlastFails view.now.nodes) }
 {
-    let nodes = nodes_of(alloc, view)?;
-    ask(alloc, &nodes, view.nodes().len(), false)
+    let Some(question) = open_question(alloc, view)? else {
+        return Ok(Question {
+            formula: refuted(alloc)?,
+            rows: Rows::new(alloc),
+        });
+    };
+    Ok(question)
 }
 
-/// The nodes of a view, and a last one that is 1 where its two nodes are equal.
+/// The question of a view as a search takes it, or None where words alone tell that its two nodes never differ.
+pub(crate) fn open_question(alloc: Global, view: &View) -> Result<Option<Question>, BlastError>
+    ensures asks { IfOk result (IsOpenQuestion view.now) }
+    ensures few { OnOk result (units view.now.nodes ≤ most_units) }
+    ensures cause { IfErr result (BlastFails view.now.nodes) }
+{
+    if !is_affordable(alloc, view.nodes())? {
+        return Err(BlastError::TooMany { limit: MOST_UNITS });
+    }
+    if ends_never_differ(alloc, view)? {
+        return Ok(None);
+    }
+    Ok(Some(ask_apart(alloc, view)?))
+}
+
+/// Whether words alone tell that the two nodes of a view never differ.
+fn ends_never_differ(alloc: Global, view: &View) -> Result<bool, Memory>
+    ensures { IfOk result (λ b. IsTrue b → NeverDiffer view.now.nodes view.now.first view.now.second) }
+{
+    let (first, second) = view.ends();
+    never_differ(alloc, view.nodes(), view.widths(), first, second)
+}
+
+/// The empty clause alone.
+pub(crate) fn refuted(alloc: Global) -> Result<Formula, Memory>
+    ensures { IfOk result (λ f. f ≡ refuted_of) }
+{
+    let mut formula = Formula::begin(alloc);
+    formula.add(&[])?;
+    Ok(formula)
+}
+
+/// The formula of a view's nodes and of the bits in which its two nodes differ, and the clause that some of these is 1.
+fn ask_apart(alloc: Global, view: &View) -> Result<Question, Memory>
+    requires { units view.now.nodes ≤ most_units }
+    ensures { IfOk result (λ q. AsksApart view.now q.formula q.rows) }
+{
+    let last = view.nodes().len();
+    let nodes = nodes_of(alloc, view)?;
+    let Blasted { formula, rows } = blast_affordable(alloc, &nodes)?;
+    let mut formula = formula;
+    formula.add(rows.row(last))?;
+    Ok(Question { formula, rows })
+}
+
+/// The nodes of a view, and a last one with the bits in which its two nodes differ.
 fn nodes_of(alloc: Global, view: &View) -> Result<Vec<Node>, Memory>
     ensures { IfOk result (λ ns. ns.items ≡ question_nodes view.now) }
 {
     let (first, second) = view.ends();
     let mut nodes = Vec::from_slice(alloc, view.nodes())?;
-    nodes.push(Node::Eq(NodeId(first), NodeId(second)))?;
+    nodes.push(Node::Xor(NodeId(first), NodeId(second)))?;
     Ok(nodes)
 }
 

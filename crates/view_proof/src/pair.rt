@@ -2,17 +2,19 @@
 
 ghost use Rattle.std.specs.Prelude.{◌≡◌, ◌↔◌, ◌<◌, ◌≤◌, IfOk, OnOk, IfErr, length};
 ghost use Rattle.bit_blaster.specs.Circuit.{units, most_units};
-ghost use Rattle.dag_view.specs.View.{IsView, IsTableOf, Embeds, HasMisfit};
+ghost use Rattle.dag_view.specs.View.{IsView, IsTableOf, IsWhole, HasFree, Embeds, HasMisfit};
 ghost use Rattle.merge_table.specs.KeepsValues.{KeepsValues, AlwaysEqual};
-ghost use Rattle.view_proof.specs.Question.{question_nodes};
+ghost use Rattle.word_check.specs.Valuation.{NeverDiffer};
+ghost use Rattle.view_proof.specs.Question.{AsksApart};
 ghost use Rattle.view_proof.specs.Checked.{IsChecked, IsSpentProof};
 ghost use Rattle.view_proof.specs.Answer.{IsPairEnd, IsTooMany, HoldsInGraphs};
 
 use crate::answer::{Answer, answer_of};
-use crate::ask::question_of;
+use crate::ask::{Question, open_question, refuted};
 use axe_io::Input;
 use bit_blaster::BlastError;
 use clause_log::Log;
+use clause_search::{Found, search};
 use dag::{Dag, NodeId};
 use dag_view::{Misfit, View};
 use memory::Memory;
@@ -29,6 +31,7 @@ pub struct Checked {
 }
 
 impl Model for Checked {
+    ghost use Rattle.view_proof.specs.Question.{AsksApart};
     ghost use Rattle.view_proof.specs.Checked.{ProofParts, IsChecked};
 
     ghost Value = { ProofParts };
@@ -87,6 +90,7 @@ pub struct SpentProof {
 }
 
 impl Model for SpentProof {
+    ghost use Rattle.view_proof.specs.Question.{AsksApart};
     ghost use Rattle.view_proof.specs.Checked.{ProofParts, IsSpentProof};
 
     ghost Value = { ProofParts };
@@ -111,6 +115,15 @@ impl SpentProof {
     {
         self.log.lines()
     }
+
+    /// Whether a graph and its table still have what the view has seen, as [`View::embeds`] says.
+    pub fn embeds(&self, dag: &Dag, table: &MergeTable) -> Result<(), Misfit>
+        requires { IsTableOf dag.now table.now }
+        ensures embeds { OnOk result (Embeds dag.now table.now self.now.view) }
+        ensures misfit { IfErr result (HasMisfit dag.now table.now self.now.view) }
+    {
+        self.view.embeds(dag, table)
+    }
 }
 
 /// What is found of a pair.
@@ -118,32 +131,87 @@ impl SpentProof {
 pub enum PairEnd {
     /// The two nodes are equal.
     Equal(Checked),
-    /// They differ on this input, in which each leaf that the view hasn't is 0.
+    /// They differ on this input, and on each that agrees with it on the view's leaves.
     Leaves(Input),
+    /// The view is cut, and they differ for some values of its leaves and free leaves: in a graph they may be equal.
+    CutLeaves,
     /// All lines were spent.
     Spent(SpentProof),
-    /// The nodes of the question have more units of charge together than this.
+    /// The nodes of the view have more units of charge together than this.
     TooMany { limit: u32 },
 }
 
+/// A pair that words alone prove, with a log of no lines.
+fn checked_at_once(alloc: Global, view: View) -> Result<Checked, Memory>
+    requires { NeverDiffer view.nodes view.first view.second }
+    ensures view { IfOk result (λ p. p.view ≡ view) }
+    ensures lines { IfOk result (λ p. length p.log.lines ≡ 0) }
+{
+    let log = Log::begin(alloc, refuted(alloc)?)?;
+    Ok(Checked { view, log })
+}
+
 /// Searches for a proof that the two nodes of a view are equal, or for an input on which they differ, with at most
-/// `lines` lines. TooMany exactly where the charges of the question's nodes, which are the view's and one that tells
-/// whether the two are equal, pass 16,777,216 units.
+/// `lines` lines. TooMany exactly where the charges of the view's nodes together pass 16,777,216 units. A pair that words
+/// alone prove takes no line.
 pub fn prove_pair(alloc: Global, view: View, lines: u64) -> Result<PairEnd, Memory>
     requires some { 1 ≤ lines }
     requires most { lines ≤ 1000000 }
     ensures end { IfOk result (IsPairEnd view lines) }
-    ensures too_many { IfOk result (λ e. IsTooMany e ↔ (most_units < units (question_nodes view))) }
+    ensures too_many { IfOk result (λ e. IsTooMany e ↔ (most_units < units view.nodes)) }
     ensures graphs { IfOk result (HoldsInGraphs view) }
 {
-    let question = match question_of(alloc, &view) {
-        Ok(question) => question,
+    let question = match open_question(alloc, &view) {
+        Ok(Some(question)) => question,
+        Ok(None) => return Ok(PairEnd::Equal(checked_at_once(alloc, view)?)),
         Err(BlastError::TooMany { limit }) => return Ok(PairEnd::TooMany { limit }),
         Err(BlastError::Memory) => return Err(Memory),
     };
+    if view.is_cut() {
+        search_cut(alloc, view, question, lines)
+    } else {
+        search_whole(alloc, view, question, lines)
+    }
+}
+
+/// Searches the question of a view without free leaves.
+fn search_whole(
+    alloc: Global,
+    view: View,
+    question: Question,
+    lines: u64,
+) -> Result<PairEnd, Memory>
+    requires some { 1 ≤ lines }
+    requires most { lines ≤ 1000000 }
+    requires whole { IsWhole view }
+    requires asks { AsksApart view question.formula question.rows }
+    requires few { units view.nodes ≤ most_units }
+    ensures end { IfOk result (IsPairEnd view lines) }
+    ensures few { IfOk result (λ e. IsTooMany e → ⊥) }
+    ensures graphs { IfOk result (HoldsInGraphs view) }
+{
     match answer_of(alloc, question, view.nodes(), view.leaves(), lines)? {
         Answer::Model(input) => Ok(PairEnd::Leaves(input)),
         Answer::Refuted(log) => Ok(PairEnd::Equal(Checked { view, log })),
         Answer::Spent(log) => Ok(PairEnd::Spent(SpentProof { view, log })),
+    }
+}
+
+/// Searches the question of a view with free leaves, of which no input is read.
+fn search_cut(alloc: Global, view: View, question: Question, lines: u64) -> Result<PairEnd, Memory>
+    requires some { 1 ≤ lines }
+    requires most { lines ≤ 1000000 }
+    requires free { HasFree view }
+    requires asks { AsksApart view question.formula question.rows }
+    requires few { units view.nodes ≤ most_units }
+    ensures end { IfOk result (IsPairEnd view lines) }
+    ensures few { IfOk result (λ e. IsTooMany e → ⊥) }
+    ensures graphs { IfOk result (HoldsInGraphs view) }
+{
+    let _nodes = view.nodes();
+    match search(alloc, question.formula, lines)? {
+        Found::Model(_) => Ok(PairEnd::CutLeaves),
+        Found::Refuted(log) => Ok(PairEnd::Equal(Checked { view, log })),
+        Found::Spent(log) => Ok(PairEnd::Spent(SpentProof { view, log })),
     }
 }

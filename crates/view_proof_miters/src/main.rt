@@ -71,6 +71,7 @@ fn prove(rt: &HostRuntime, name: &str) -> io::Result<()> {
     match prove_pair(rt.alloc(), view, LINES) {
         Ok(PairEnd::Equal(checked)) => println!(rt; "equal {}", checked.lines()),
         Ok(PairEnd::Leaves(_)) => println!(rt; "apart 0"),
+        Ok(PairEnd::CutLeaves) => println!(rt; "cut"),
         Ok(PairEnd::Spent(proof)) => println!(rt; "spent {}", proof.lines()),
         Ok(PairEnd::TooMany { limit }) => println!(rt; "more units than {limit}"),
         Err(_) => println!(rt; "out of memory"),

@@ -4,7 +4,7 @@ use dag::{Node, NodeId};
 use std::alloc::Global;
 
 /// The names of the pairs.
-pub const NAMES: [&str; 14] = [
+pub const NAMES: [&str; 17] = [
     "sum_swapped",
     "sum_by_parts",
     "xor_by_parts",
@@ -19,9 +19,12 @@ pub const NAMES: [&str; 14] = [
     "eight_times",
     "zero_extension",
     "substitution_and_another",
+    "tea_sums",
+    "hash_sums",
+    "hash_sums_and_others",
 ];
 
-/// The two nodes of a pair. The first eight pairs are equal, and the others aren't.
+/// The two nodes of a pair. The first eight pairs and the two of sums are equal, and the others aren't.
 pub fn pair(b: &mut Builder, alloc: Global, number: u32) -> Result<(NodeId, NodeId), Fault> {
     let x = b.input(0)?;
     let y = b.input(1)?;
@@ -46,8 +49,45 @@ pub fn pair(b: &mut Builder, alloc: Global, number: u32) -> Result<(NodeId, Node
             tree(b, alloc, x, true, false)?,
             tree(b, alloc, x, false, true)?,
         )),
+        14 => Ok((tea_sums(b, false)?, tea_sums(b, true)?)),
+        15 => Ok((hash_sums(b, false, 7)?, hash_sums(b, true, 7)?)),
+        16 => Ok((hash_sums(b, false, 7)?, hash_sums(b, true, 9)?)),
         _ => Err(Fault::NoSuchPair),
     }
+}
+
+/// Two sums of the Tiny Encryption Algorithm one after another, in either association.
+fn tea_sums(b: &mut Builder, other: bool) -> Result<NodeId, Fault> {
+    let (y, z) = (b.input(0)?, b.input(1)?);
+    let (key0, key1) = (b.input(2)?, b.input(3)?);
+    let up = b.shl(z, 4)?;
+    if other {
+        let keys = b.put(Node::Plus(key0, key1))?;
+        let rest = b.put(Node::Plus(y, up))?;
+        return b.put(Node::Plus(rest, keys));
+    }
+    let first = b.put(Node::Plus(up, key0))?;
+    let second = b.put(Node::Plus(y, first))?;
+    b.put(Node::Plus(second, key1))
+}
+
+/// Five words of a round of SHA-256 added up, in either order, with a rotation by so much.
+fn hash_sums(b: &mut Builder, other: bool, amount: u32) -> Result<NodeId, Fault> {
+    let (e, f) = (b.input(0)?, b.input(1)?);
+    let (h, w) = (b.input(2)?, b.input(3)?);
+    let turned = rotation(b, e, amount)?;
+    let chosen = b.put(Node::And(e, f))?;
+    let constant = b.constant(32, 0x428a_2f98)?;
+    let words = if other {
+        [w, constant, chosen, turned, h]
+    } else {
+        [h, turned, chosen, constant, w]
+    };
+    let mut sum = words[0];
+    for word in &words[1..] {
+        sum = b.put(Node::Plus(sum, *word))?;
+    }
+    Ok(sum)
 }
 
 fn sum_by_parts(b: &mut Builder, x: NodeId, y: NodeId) -> Result<NodeId, Fault> {

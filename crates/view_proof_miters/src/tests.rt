@@ -17,6 +17,7 @@ use view_proof::{PairEnd, Settled, prove_pair, settle};
 enum Came {
     Equal,
     Apart,
+    Cut,
     Spent,
     TooMany { limit: u32 },
     Wrong,
@@ -56,9 +57,27 @@ fn found(alloc: Global, dag: &Dag, a: NodeId, b: NodeId, lines: u64) -> Result<C
     requires some { 1 ≤ lines }
     requires most { lines ≤ 1000000 }
 {
+    found_in(alloc, dag, a, b, None, lines)
+}
+
+/// The same of a view that is cut below so many levels.
+fn found_in(
+    alloc: Global,
+    dag: &Dag,
+    a: NodeId,
+    b: NodeId,
+    cut: Option<u32>,
+    lines: u64,
+) -> Result<Came, Memory>
+    requires first { a.0 < length dag.now.nodes }
+    requires second { b.0 < length dag.now.nodes }
+    requires width { slice_get dag.now.widths a.0 ≡ slice_get dag.now.widths b.0 }
+    requires some { 1 ≤ lines }
+    requires most { lines ≤ 1000000 }
+{
     dag.known();
     let table = MergeTable::begin(alloc, dag.len())?;
-    let view = View::cone(alloc, dag, &table, a, b, None)?;
+    let view = View::cone(alloc, dag, &table, a, b, cut)?;
     match prove_pair(alloc, view, lines)? {
         PairEnd::Equal(checked) => Ok(if checked.lines() <= lines && checked.pair() == (a, b) {
             Came::Equal
@@ -74,6 +93,7 @@ fn found(alloc: Global, dag: &Dag, a: NodeId, b: NodeId, lines: u64) -> Result<C
                 Came::Apart
             })
         }
+        PairEnd::CutLeaves => Ok(Came::Cut),
         PairEnd::Spent(proof) => Ok(if proof.lines() == lines {
             Came::Spent
         } else {
@@ -122,6 +142,63 @@ fn sum_as_or_and_and(rt: HostRuntime) -> Result<(), Fail> {
 }
 
 #[test]
+fn cut_views(rt: HostRuntime) -> Result<(), Fail> {
+    let alloc = rt.alloc();
+    let mut dag = graph(alloc, Kind::Int, 3)?;
+    let x = put(
+        &rt,
+        &mut dag,
+        Node::Leaf {
+            width: 32,
+            index: 0,
+        },
+    )?;
+    let y = put(
+        &rt,
+        &mut dag,
+        Node::Leaf {
+            width: 32,
+            index: 1,
+        },
+    )?;
+    let z = put(
+        &rt,
+        &mut dag,
+        Node::Leaf {
+            width: 32,
+            index: 2,
+        },
+    )?;
+    let p = put(&rt, &mut dag, Node::Times(x, y))?;
+    let q = put(&rt, &mut dag, Node::Times(y, z))?;
+    let not_p = put(&rt, &mut dag, Node::Not(p))?;
+    let not_q = put(&rt, &mut dag, Node::Not(q))?;
+    let either = put(&rt, &mut dag, Node::Or(not_p, not_q))?;
+    let both = put(&rt, &mut dag, Node::And(p, q))?;
+    let not_both = put(&rt, &mut dag, Node::Not(both))?;
+    let one = put(
+        &rt,
+        &mut dag,
+        Node::Const {
+            width: 32,
+            value: 1,
+        },
+    )?;
+    let next = put(&rt, &mut dag, Node::Plus(x, one))?;
+    assert!(rt;
+        either.0 < dag.len() && not_both.0 < dag.len() && x.0 < dag.len() && next.0 < dag.len()
+    );
+    assert!(rt; dag.width(either) == dag.width(not_both) && dag.width(x) == dag.width(next));
+    assert_eq!(rt;
+        found_in(alloc, &dag, either, not_both, Some(2), 10000)?,
+        Came::Equal
+    );
+    assert_eq!(rt; found_in(alloc, &dag, x, next, Some(1), 10000)?, Came::Cut);
+    assert_eq!(rt; found_in(alloc, &dag, x, next, None, 10000)?, Came::Apart);
+    Ok(())
+}
+
+#[test]
 fn spent_lines(rt: HostRuntime) -> Result<(), Fail> {
     let alloc = rt.alloc();
     let mut dag = graph(alloc, Kind::Byte, 2)?;
@@ -132,6 +209,24 @@ fn spent_lines(rt: HostRuntime) -> Result<(), Fail> {
     assert!(rt; a.0 < dag.len() && b.0 < dag.len());
     assert!(rt; dag.width(a) == dag.width(b));
     assert_eq!(rt; found(alloc, &dag, a, b, 3)?, Came::Spent);
+    Ok(())
+}
+
+#[test]
+fn distributivity_spends_its_lines(rt: HostRuntime) -> Result<(), Fail> {
+    let alloc = rt.alloc();
+    let mut dag = graph(alloc, Kind::Byte, 3)?;
+    let x = put(&rt, &mut dag, Node::Leaf { width: 8, index: 0 })?;
+    let y = put(&rt, &mut dag, Node::Leaf { width: 8, index: 1 })?;
+    let z = put(&rt, &mut dag, Node::Leaf { width: 8, index: 2 })?;
+    let sum = put(&rt, &mut dag, Node::Plus(y, z))?;
+    let a = put(&rt, &mut dag, Node::Times(x, sum))?;
+    let first = put(&rt, &mut dag, Node::Times(x, y))?;
+    let second = put(&rt, &mut dag, Node::Times(x, z))?;
+    let b = put(&rt, &mut dag, Node::Plus(first, second))?;
+    assert!(rt; a.0 < dag.len() && b.0 < dag.len());
+    assert!(rt; dag.width(a) == dag.width(b));
+    assert_eq!(rt; found(alloc, &dag, a, b, 200)?, Came::Spent);
     Ok(())
 }
 

@@ -1,0 +1,9 @@
+use Rattle.std.proofs.Common.{◌≡◌, length}
+use Rattle.dag_view.specs.Under.{ArePlaced}
+use Rattle.dag_view.proofs.place.nodes_of.Given as goal
+
+abbrev pub invariant-loop-k : goal.invariant-loop-k
+invariant-loop-k l = record {
+  size : length l.nodes.items ≡ l.k;
+  placed : ArePlaced l.dag l.table l.expanded l.ids l.widths l.fn.leaves l.nodes.items;
+}

@@ -1,0 +1,5 @@
+use Rattle.dag_view.specs.Steps.{AddsLevel}
+use Rattle.dag_view.proofs.steps.meet_level.Given as goal
+
+abbrev pub invariant-loop-k : goal.invariant-loop-k
+invariant-loop-k l = AddsLevel l.dag l.table l.fn.from l.k l.initial.met.keys l.met.keys

@@ -1,0 +1,8 @@
+use Rattle.dag_view.specs.Under.{AreMet}
+use Rattle.dag_view.proofs.under.nodes_under.Given as goal
+
+abbrev pub invariant-loop-id : goal.invariant-loop-id
+invariant-loop-id l = AreMet l.dag l.table l.expanded l.a l.b l.waiting.keys l.taken.items l.bound
+
+abbrev pub decreases-loop-id : goal.decreases-loop-id
+decreases-loop-id l = l.bound
