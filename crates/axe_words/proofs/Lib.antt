@@ -1,3 +1,4 @@
 pub mod NumberLemmas
 pub mod ArgumentLemmas
 pub mod FaultLemmas
+pub mod RangeLemmas

@@ -16,11 +16,6 @@ pub decimal_next : (n : ℕ) (text : List ℕ) (i : ℕ) → i < length text →
 decimal_next n text i lt digit = let c : ℕ = get_or text i 0 in
     ap (decimal_after n) (drop_more text i 0 lt) ∙ ap (λ b. cond b (decimal_after (10 * n + (c - 48)) (drop (i + 1) text)) None) digit
 
--- what is no digit ends it
-pub decimal_stop : (n : ℕ) (text : List ℕ) (i : ℕ) → i < length text → is_ascii_digit (get_or text i 0) ≡ false → decimal_after n (drop i text) ≡ None
-decimal_stop n text i lt other = let c : ℕ = get_or text i 0 in
-    ap (decimal_after n) (drop_more text i 0 lt) ∙ ap (λ b. cond b (decimal_after (10 * n + (c - 48)) (drop (i + 1) text)) None) other
-
 -- what is too great stays so
 pub too_great : (least greatest n : ℕ) (cs : List ℕ) → greatest < n → option_and_then (in_range least greatest) (decimal_after n cs) ≡ None
 too_great least greatest n [] lt = go (nat_le least n)

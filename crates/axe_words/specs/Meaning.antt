@@ -1,11 +1,13 @@
 -- What the words of a job mean.
-use Rattle.std.specs.Prelude.{◌≡◌, ◌≢◌, ℕ, List, [], ◌∷◌, Option, Some, None, Ok, Err, IsOk, true, codes, option_map}
+use Rattle.std.specs.Prelude.{◌≡◌, ◌≢◌, ℕ, ◌≤◌, sum, List, [], ◌∷◌, Option, Some, None, Ok, Err, IsOk, true, codes, option_map}
 use Rattle.std.specs.String.{string_bytes}
 use Rattle.clap.specs.Words.{IsAmong}
+use Rattle.axe_io.specs.Ranges.{AreBudgets}
 use Rattle.axe_io.specs.declared.budgets.Budgets.{Budgets}
 use Rattle.axe_io.specs.declared.parameters.OutPlace.{OutPlace}
 use Rattle.axe_words.specs.Options.{Text, number_options, numbers_of, HaveNumbers, first_bad, sizes_of, out_of}
 use Rattle.axe_words.specs.Command.{given_by, faults, is_taken}
+use Rattle.axe_words.specs.declared.job.Command.TheVariants as command
 use Rattle.axe_words.specs.declared.job.Job.{Job}
 use Rattle.axe_words.specs.declared.job.Job.TheVariants.{Prove}
 use Rattle.axe_words.specs.declared.job.WordsError.{WordsError}
@@ -20,7 +22,7 @@ pub record IsGiven (given : Text → Option Text) (class method spec function : 
   pub desc_is : given (codes "desc") ≡ desc
   pub sizes_are : sizes_of given ≡ Ok sizes
   pub out_is : out_of given ≡ Some out
-  pub numbers : HaveNumbers given number_options (numbers_of budgets)
+  pub numbers : HaveNumbers given (number_options command.Prove) (numbers_of budgets)
 
 -- what a job is made of, where `given` says which value its words give to a name
 abbrev pub IsJobOf : (Text → Option Text) → Job → Type 0
@@ -31,9 +33,9 @@ IsJobOf given (Prove class method spec function desc sizes out budgets) =
 abbrev pub IsValueFault : (Text → Option Text) → WordsError → Type 0
 IsValueFault given (Unknown word) = ⊥
 IsValueFault given (Refused kind) = ⊥
-IsValueFault given (BadNumber option) = first_bad given number_options ≡ Some option
-IsValueFault given (BadSizes at) = (first_bad given number_options ≡ None) × (sizes_of given ≡ Err at)
-IsValueFault given BadOut = (first_bad given number_options ≡ None) × IsOk (sizes_of given) × (out_of given ≡ None)
+IsValueFault given (BadNumber option) = first_bad given (number_options command.Prove) ≡ Some option
+IsValueFault given (BadSizes at) = (first_bad given (number_options command.Prove) ≡ None) × (sizes_of given ≡ Err at)
+IsValueFault given BadOut = (first_bad given (number_options command.Prove) ≡ None) × IsOk (sizes_of given) × (out_of given ≡ None)
 IsValueFault given Memory = Unit {0}
 
 -- why the words after `prove` make no job
@@ -57,3 +59,7 @@ abbrev pub IsWordsFault : List Text → WordsError → Type 0
 IsWordsFault words (Unknown word) = (string_bytes word ≡ first_word words) × (first_word words ≢ codes "prove")
 IsWordsFault words Memory = Unit {0}
 IsWordsFault words e = (rest : List Text) × (words ≡ codes "prove" ∷ rest) × IsProveFault rest e
+
+-- each number of a job is in its range, and its sizes have a sum of at most 16,384
+abbrev pub HasRanges : Job → Type 0
+HasRanges (Prove class method spec function desc sizes out budgets) = AreBudgets budgets × (sum sizes.items ≤ 16384)

@@ -1,4 +1,4 @@
--- The options of `prove`, each with its default and its range. `given` says which value the words give to a name.
+-- The options of each command, each with its default and its range. `given` says which value the words give to a name.
 use Rattle.std.specs.Prelude.{◌≡◌, ℕ, List, [], ◌∷◌, Option, Some, None, Result, Ok, Err, if◌then◌else◌, codes, option_map}
 use Rattle.std.specs.Option.{option_map_or}
 use Rattle.std.specs.Str.{bytes_eq}
@@ -10,6 +10,8 @@ use Rattle.axe_words.specs.declared.numbers.SizesFault.{SizesFault}
 use Rattle.axe_words.specs.declared.numbers.SizesFault.TheVariants.{Bad, Memory}
 use Rattle.axe_words.specs.declared.job.WordsError.{WordsError}
 use Rattle.axe_words.specs.declared.job.WordsError.TheVariants.{BadNumber}
+use Rattle.axe_words.specs.declared.job.Command.{Command}
+use Rattle.axe_words.specs.declared.job.Command.TheVariants.{Prove}
 use Rattle.axe_words.specs.declared.job.NumberWord.{NumberWord}
 use Rattle.axe_words.specs.declared.job.NumberWord.TheVariants.{Steps, Paths, Frames, Elements, Depth, Work, Nodes, Lines, Total, Cases, Vectors, Workers, Seed}
 
@@ -27,9 +29,9 @@ pub record NumberOption : Type 0 where
 abbrev pub number_option : NumberWord → Text → ℕ → ℕ → ℕ → NumberOption
 number_option option name default least greatest = record { option = option; name = name; default = default; least = least; greatest = greatest }
 
--- the options that take a number, in the order in which they are read: name, default, least and greatest
-abbrev pub number_options : List NumberOption
-number_options =
+-- the options of a command that take a number, in the order in which they are read: name, default, least and greatest
+abbrev pub number_options : Command → List NumberOption
+number_options Prove =
     number_option Steps (codes "steps") 200000 1 2000000
     ∷ number_option Paths (codes "paths") 64 1 1024
     ∷ number_option Frames (codes "frames") 64 1 256
@@ -83,7 +85,7 @@ out_of given = option_map_or out_in (given (codes "out")) (Some Returned)
 
 -- the first option whose value is no number in its range is the answer
 abbrev pub IsFirstBad : (Text → Option Text) → WordsError → Type 0
-IsFirstBad given (BadNumber option) = first_bad given number_options ≡ Some option
+IsFirstBad given (BadNumber option) = first_bad given (number_options Prove) ≡ Some option
 IsFirstBad given e = ⊥
 
 -- why the sizes aren't had

@@ -1,6 +1,13 @@
 use axe_io::{Budgets, OutPlace};
 use clap::error::ErrorKind;
 
+/// A command, which the first word names. Each has options of its own.
+#[derive(Clone, Copy, Debug, PartialEq, Eq)]
+pub enum Command {
+    /// `prove`
+    Prove,
+}
+
 /// A job that words mean.
 #[derive(Debug, Drop)]
 pub enum Job {

@@ -18,8 +18,5 @@ mod numbers;
 mod options;
 mod read;
 
-pub use job::{Job, NumberWord, WordsError};
+pub use job::{Command, Job, NumberWord, WordsError};
 pub use read::read_words;
-
-#[cfg(test)]
-mod tests;

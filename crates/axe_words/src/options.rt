@@ -2,7 +2,7 @@ ghost use Rattle.std.specs.Prelude.{◌≡◌, ◌≤◌, None, Some, IfErr, IfO
 ghost use Rattle.clap.specs.Words.{first_value, found_of};
 ghost use Rattle.axe_words.specs.Options.{number_option, number_of, number_options, numbers_of, HaveNumbers, first_bad, IsFirstBad, sizes_of, IsSizesFaultOf, out_in, out_of};
 
-use crate::job::{NumberWord, WordsError};
+use crate::job::{Command, NumberWord, WordsError};
 use crate::numbers::{SizesFault, number_in, sizes_in};
 use axe_io::{Budgets, OutPlace};
 use clap::ArgMatches;
@@ -31,10 +31,10 @@ fn number(
     }
 }
 
-/// The numbers of a job. The first option of the table that is bad decides.
+/// The numbers of a `prove`. The first option of its table that is bad decides.
 pub(crate) fn budgets(matches: &ArgMatches) -> Result<Budgets, WordsError>
-    ensures ok { IfOk result (λ b. HaveNumbers (first_value (found_of matches.now)) number_options (numbers_of b)) }
-    ensures good { IfOk result (λ _. first_bad (first_value (found_of matches.now)) number_options ≡ None) }
+    ensures ok { IfOk result (λ b. HaveNumbers (first_value (found_of matches.now)) (number_options Command.Prove) (numbers_of b)) }
+    ensures good { IfOk result (λ _. first_bad (first_value (found_of matches.now)) (number_options Command.Prove) ≡ None) }
     ensures err { IfErr result (λ e. IsFirstBad (first_value (found_of matches.now)) e) }
 {
     let steps = number(matches, NumberWord::Steps, "steps", 200_000, 1, 2_000_000)?;

@@ -1,11 +1,11 @@
-ghost use Rattle.std.specs.Prelude.{◌≡◌, ◌≢◌, [], map, is_some, option_map, true, IfErr, IfOk, Some};
+ghost use Rattle.std.specs.Prelude.{◌≡◌, ◌≢◌, [], map, is_some, option_map, true, codes, ◌↔◌, IsSome, IfErr, IfOk, Some};
 ghost use Rattle.std.specs.String.{string_bytes};
 ghost use Rattle.clap.specs.Words.{first_value, found_of};
 ghost use Rattle.axe_words.specs.Command.{HasWords, given_by, faults};
-ghost use Rattle.axe_words.specs.Meaning.{IsJob, IsJobOf, IsValueFault, IsProveFault, IsWordsFault};
+ghost use Rattle.axe_words.specs.Meaning.{HasRanges, IsJob, IsJobOf, IsValueFault, IsProveFault, IsWordsFault};
 
 use crate::command::matches_of;
-use crate::job::{Job, WordsError};
+use crate::job::{Command, Job, WordsError};
 use crate::numbers::SizesFault;
 use crate::options::{budgets, out, sizes};
 use clap::ArgMatches;
@@ -97,22 +97,32 @@ fn refusal(kind: ErrorKind) -> WordsError
     }
 }
 
+/// The command that a word names.
+fn command_of(word: &str) -> Option<Command>
+    ensures named { IsSome result ↔ (word.now ≡ codes "prove") }
+{
+    if word == "prove" {
+        return Some(Command::Prove);
+    }
+    None
+}
+
 /// The job that words mean: `prove CLASS METHOD SPEC FUNCTION [options]`.
 ///
 /// The options are `--desc`, `--sizes`, `--out` and those of `NumberWord`, each with a value as the
-/// next word or after `=`. Nothing else is taken, and no option twice.
+/// next word or after `=`. Nothing else is taken, and no option twice. The numbers of a job are in their ranges.
 pub fn read_words(alloc: Global, words: &[String]) -> Result<Job, WordsError>
     ensures job { IfOk result (IsJob (map string_bytes words.now)) }
+    ensures ranges { IfOk result HasRanges }
     ensures fault { IfErr result (IsWordsFault (map string_bytes words.now)) }
 {
     match words.split_first() {
         Some((first, rest)) => {
-            if first.as_str() == "prove" {
-                prove_job(alloc, rest)
-            } else {
-                Err(WordsError::Unknown {
+            match command_of(first.as_str()) {
+                Some(Command::Prove) => prove_job(alloc, rest),
+                None => Err(WordsError::Unknown {
                     word: copied(alloc, first.as_str())?,
-                })
+                }),
             }
         }
         None => Err(WordsError::Unknown {
