@@ -1,25 +1,13 @@
-//! The program: reads the words of a job, finds the job in the store, decides it, and writes the verdict.
-//!
-//! `parts` has what a job is made of; `given`, `method` and `function` are the stages that find it, and `find` has
-//! them in their order. `answer` is the answer to a job, `status` what a run ends with, and `run` the whole.
+//! The program: gives the words, the files and standard output of the system to `decide::run`.
 #![tactic(auto)]
 
-mod answer;
-mod find;
-mod function;
-mod given;
-mod method;
-mod parts;
 #[cfg(test)]
 mod program_tests;
-mod run;
-mod status;
 #[cfg(test)]
 mod tests;
 
-use crate::run::{run, without_words};
-use crate::status::NoWords;
 use axe_io::{FileStore, OpenGate, OutputSink};
+use decide::{NoWords, run, without_words};
 use std::process::ExitCode;
 use std::{env, io};
 

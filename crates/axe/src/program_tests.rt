@@ -1,8 +1,8 @@
 //! Jobs whose classes have fields, several methods, loops, throws and handlers, and whose specifications use more of
 //! the language.
 
-use crate::status::Status;
 use crate::tests::{outcome, push_text};
+use decide::Status;
 use memory::Memory;
 use std::alloc::Global;
 use std::test::Fail;

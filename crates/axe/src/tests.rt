@@ -1,6 +1,5 @@
-use crate::run::run;
-use crate::status::Status;
 use axe_io::{MemorySink, MemoryStore, OpenGate, Stored};
+use decide::{Status, run};
 use memory::Memory;
 use std::alloc::Global;
 use std::marker::Sync;

@@ -10,23 +10,23 @@ use Rattle.axe_words.specs.declared.job.NumberWord.{NumberWord}
 use Rattle.axe_words.specs.declared.job.NumberWord.TheVariants as option
 use Rattle.axe_words.specs.declared.job.WordsError.{WordsError}
 use Rattle.axe_words.specs.declared.job.WordsError.TheVariants as words_error
-use Rattle.class_reader.specs.Contents.{Contents}
-use Rattle.class_reader.specs.declared.class.Method.{Method}
-use Rattle.class_reader.specs.declared.class.MethodId.{MethodId}
-use Rattle.class_reader.specs.declared.error.ClassError.{ClassError}
-use Rattle.class_reader.specs.declared.error.ClassError.TheVariants as class
-use Rattle.jvm_meaning.specs.declared.value.Throw.{Throw}
-use Rattle.jvm_meaning.specs.declared.value.Throw.TheVariants as throw
-use Rattle.jvm_meaning.specs.declared.value.Reason.{Reason}
-use Rattle.jvm_meaning.specs.declared.value.Reason.TheVariants as reason
-use Rattle.jvm_meaning.specs.declared.value.Seen.{Seen}
-use Rattle.jvm_meaning.specs.declared.value.Seen.TheVariants as seen
-use Rattle.jvm_meaning.specs.declared.value.End.{End}
-use Rattle.jvm_meaning.specs.declared.value.End.TheVariants as run
-use Rattle.jvm_meaning.specs.declared.descriptor.ShapeError.{ShapeError}
-use Rattle.jvm_meaning.specs.declared.descriptor.ShapeError.TheVariants as shape
-use Rattle.spec_reader.specs.declared.error.SpecError.{SpecError}
-use Rattle.spec_reader.specs.declared.error.SpecError.TheVariants as spec
+use Rattle.class_file.specs.Contents.{Contents}
+use Rattle.class_file.specs.declared.class.Method.{Method}
+use Rattle.class_file.specs.declared.class.MethodId.{MethodId}
+use Rattle.class_file.specs.declared.error.ClassError.{ClassError}
+use Rattle.class_file.specs.declared.error.ClassError.TheVariants as class
+use Rattle.jvm_state.specs.declared.value.Throw.{Throw}
+use Rattle.jvm_state.specs.declared.value.Throw.TheVariants as throw
+use Rattle.jvm_state.specs.declared.value.Reason.{Reason}
+use Rattle.jvm_state.specs.declared.value.Reason.TheVariants as reason
+use Rattle.jvm_meaning.specs.Numbers.{Seen}
+use Rattle.jvm_state.specs.declared.value.Seen.TheVariants as seen
+use Rattle.jvm_meaning.specs.Numbers.{End}
+use Rattle.jvm_state.specs.declared.value.End.TheVariants as run
+use Rattle.jvm_run.specs.declared.descriptor.ShapeError.{ShapeError}
+use Rattle.jvm_run.specs.declared.descriptor.ShapeError.TheVariants as shape
+use Rattle.spec_form.specs.declared.error.SpecError.{SpecError}
+use Rattle.spec_form.specs.declared.error.SpecError.TheVariants as spec
 use Rattle.spec_meaning.specs.declared.value.Value.{Value}
 use Rattle.spec_meaning.specs.declared.value.Value.TheVariants as value
 use Rattle.spec_meaning.specs.declared.value.Why.{Why}

@@ -2,8 +2,8 @@
 use Rattle.std.specs.Prelude.{ℕ, zero, suc, ℤ, pos, negsuc, ◌+◌, ◌/◌, ◌%◌, ◌^◌, ◌==◌, not, ◌&&◌, nat_lt, nat_le, if◌then◌else◌, List, [], ◌∷◌, ◌++◌, codes, map, slice_get, Option, Some, None}
 use Rattle.std.specs.List.{flat_map}
 use Rattle.std.specs.Fmt.{signed_decimal}
-use Rattle.class_reader.specs.declared.class.Method.{Method}
-use Rattle.class_reader.specs.declared.class.MethodId.{MethodId}
+use Rattle.class_file.specs.declared.class.Method.{Method}
+use Rattle.class_file.specs.declared.class.MethodId.{MethodId}
 
 -- pieces of text, one after the other
 abbrev pub joined : List (List ℕ) → List ℕ

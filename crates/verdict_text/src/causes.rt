@@ -4,10 +4,11 @@ ghost use Rattle.verdict_text.specs.Texts.{throw_name, reason_text, why_text, cl
 use crate::names::name_text;
 use axe_io::Budget;
 use axe_words::{NumberWord, WordsError};
-use class_reader::ClassError;
-use jvm_meaning::{Reason, ShapeError, Throw};
+use class_file::ClassError;
+use jvm_run::ShapeError;
+use jvm_state::{Reason, Throw};
+use spec_form::SpecError;
 use spec_meaning::Why;
-use spec_reader::SpecError;
 use std::alloc::{AllocError, Global};
 
 /// The name of what is thrown.

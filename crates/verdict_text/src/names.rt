@@ -2,7 +2,7 @@ ghost use Rattle.std.specs.Prelude.{◌≡◌, ℕ, ◌++◌, ◌<◌, length, I
 ghost use Rattle.verdict_text.specs.Words.{name_byte, name, method_text, method};
 
 use crate::words::push_hex;
-use class_reader::{ClassFile, MethodId};
+use class_file::{ClassFile, MethodId};
 use std::alloc::{AllocError, Global};
 
 /// Adds a byte of a name or a word: as it is from 0x21 to 0x7e but for the backslash, and else a backslash and two

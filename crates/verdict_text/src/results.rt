@@ -4,8 +4,8 @@ ghost use Rattle.verdict_text.specs.Texts.{place, seen_text, end_text, value_tex
 use crate::causes::throw_name;
 use crate::names::method_text;
 use crate::words::{number_text, numbers_text, word_text, words_text};
-use class_reader::{ClassFile, MethodId};
-use jvm_meaning::{End, Seen};
+use class_file::{ClassFile, MethodId};
+use jvm_state::{End, Seen};
 use spec_meaning::Value;
 use std::alloc::{AllocError, Global};
 

@@ -8,7 +8,7 @@ use crate::inputs::input_text;
 use crate::results::{end_text, place_text, value_text};
 use crate::verdict::{Refusal, Verdict};
 use axe_io::{Budget, Input, Shape, Spent};
-use class_reader::ClassFile;
+use class_file::ClassFile;
 use memory::Memory;
 use std::alloc::{AllocError, Global};
 

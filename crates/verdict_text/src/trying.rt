@@ -8,7 +8,7 @@ ghost use Rattle.verdict_text.specs.Verdicts.{limit_of, verdict_on, verdict_of};
 use crate::verdict::{Refusal, Verdict};
 use axe_io::{Budget, Budgets, Input, Spent, inputs_are_counted};
 use job_meaning::{Job, Shown, shown_at};
-use jvm_meaning::Machine;
+use jvm_run::Machine;
 use memory::Memory;
 use sqlite_items::Items;
 use std::alloc::Global;

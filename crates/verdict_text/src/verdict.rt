@@ -1,9 +1,10 @@
 use axe_io::{Input, Spent};
 use axe_words::WordsError;
-use class_reader::{ClassError, MethodId};
-use jvm_meaning::{End, Reason, ShapeError};
+use class_file::{ClassError, MethodId};
+use jvm_run::ShapeError;
+use jvm_state::{End, Reason};
+use spec_form::SpecError;
 use spec_meaning::{Value, Why};
-use spec_reader::SpecError;
 
 /// Why a job is refused.
 #[derive(Debug, Drop)]

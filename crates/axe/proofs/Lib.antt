@@ -1,2 +1,0 @@
-pub mod FewSizes
-pub mod Finding

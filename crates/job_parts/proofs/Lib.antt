@@ -1,0 +1,2 @@
+pub mod FewSizes
+pub mod StageExits
