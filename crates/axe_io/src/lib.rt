@@ -22,6 +22,3 @@ pub use parameters::{Kind, OutPlace, Param};
 pub use shape::Shape;
 pub use sink::{MemorySink, Sink, SinkError, WriteEnd, write_all};
 pub use store::{MemoryStore, Store, StoreError, Stored};
-
-#[cfg(test)]
-mod tests;

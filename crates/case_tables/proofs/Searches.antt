@@ -1,5 +1,5 @@
 -- Rows whose keys rise, searched by halves.
-use Rattle.std.proofs.Common.{◌≡◌, ℕ, ◌<◌, ◌≤◌, Bool, true, false, cond, eqb, ltb, List, [], ◌∷◌, ◌++◌, length, map, find, Option, Some, None, refl, sym, ap, subst, ◌∙◌, arith, length-append}
+use Rattle.std.proofs.Common.{◌≡◌, ℕ, ◌<◌, ◌≤◌, Bool, true, false, cond, eqb, ltb, List, [], ◌∷◌, ◌++◌, map, find, Option, Some, None, refl, sym, ap, subst, ◌∙◌, arith}
 use Rattle.std.proofs.lemmas.Bool.{ltb-true, ltb-false, eq-eqb}
 use Rattle.std.proofs.lemmas.Bool.Decides.{nat_tests}
 use Rattle.case_tables.specs.Tables.{rise, rise_above}
@@ -96,10 +96,6 @@ half_finds {R = R} key_of key rows before after next row h parts other is =
     let P : List R → Type 0 = λ l. rise (map key_of l) ≡ true in
     let found : List R → Option R = λ l. find (λ r. eqb (key_of r) key) l in
     ap found is ∙ half_finds_in key_of key before after row (ltb key (key_of row)) refl (subst P parts h) other ∙ ap found (sym parts)
-
-pub half_is_shorter : {R : Type 0} (b : Bool) (rows before after next : List R) (row : R) → rows ≡ before ++ row ∷ after → next ≡ cond b before after → length next < length rows
-half_is_shorter true rows before after next row parts is = omega (arith, ap length parts, ap length is, length-append before (row ∷ after))
-half_is_shorter false rows before after next row parts is = omega (arith, ap length parts, ap length is, length-append before (row ∷ after))
 
 pub middle_found : {R : Type 0} (key_of : R → ℕ) (key : ℕ) (rows before after : List R) (row : R) → rise (map key_of rows) ≡ true → rows ≡ before ++ row ∷ after → key_of row ≡ key
     → Some row ≡ find (λ r. eqb (key_of r) key) rows

@@ -5,7 +5,5 @@
 
 mod cases;
 mod table;
-#[cfg(test)]
-mod tests;
 
 pub use table::{Row, Table};

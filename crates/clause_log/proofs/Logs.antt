@@ -1,5 +1,5 @@
 -- What follows from a log.
-use Rattle.std.proofs.Common.{◌≡◌, ℕ, ◌+◌, ◌<◌, ◌≤◌, zero, suc, Bool, true, false, cond, List, [], ◌∷◌, ◌++◌, length, map, take, get_or, refl, sym, ◌∙◌, ap, subst, arith, ⊎_elim, add-one, ◌^◌, ◌-◌, nat_le, drop, drop-cons, Option, None, Some, Result, Ok, Err}
+use Rattle.std.proofs.Common.{◌≡◌, ℕ, ◌+◌, ◌<◌, ◌≤◌, zero, suc, Bool, true, false, cond, List, [], ◌∷◌, ◌++◌, length, map, take, get_or, refl, sym, ◌∙◌, ap, subst, arith, ⊎_elim, add-one, ◌^◌, ◌-◌, nat_le, Option, None, Some, Result, Ok, Err}
 use Rattle.std.specs.Result.{OnOk, OnErr}
 use Rattle.std.specs.List.{find}
 use Rattle.std.proofs.lemmas.List.{get_or_append_left, get_or_push, length_push, append_assoc, append-nil, take_more, map-append, take-append-le, take_all, get_or-map}
@@ -70,16 +70,8 @@ EachFollows-push fs ls e log here j d h =
     subst (λ (zs : List Line). Follows (all_clauses fs zs) (get_or (ls ++ e ∷ []) j d)) (sym (take-append-le j ls (e ∷ []) (omega arith) ∙ take_all j ls (omega arith)))
     (subst (Follows (all_clauses fs ls)) (sym (get_or_push ls e d j (sym j-is))) here)) (cases_lt j (length ls))
 
-pub IsMet-line : (v : ℕ → Bool) (fs : List (List Literal)) (ls : List Line) (j : ℕ) (d : Line) → EachFollows fs ls → Models v fs → j < length ls → IsMet v (get_or ls j d).clause
-IsMet-line v fs ls j d log models h =
-    IsMet-follows v (all_clauses fs (take j ls)) (get_or ls j d) (Models-front v fs ls j log models (omega arith)) (log j d h)
-
 pub no_step : Step
 no_step = (record { 0 = 0 }, record { var = 0; negated = false })
-
--- a step of a loop over the steps
-pub StepsAreIn-more : (n : ℕ) (ss : List Step) (i : ℕ) (d : Step) → i < length ss → StepsAreIn n (take i ss) → (get_or ss i d).0.0 < n → StepsAreIn n (take (i + 1) ss)
-StepsAreIn-more n ss i d h all here = subst (StepsAreIn n) (sym (take_more ss i d h)) (StepsAreIn-push n (take i ss) (get_or ss i d) all here)
 
 pub resolvents_more : (db : List (List Literal)) (c : List Literal) (ss : List Step) (i : ℕ) (d : Step) (now next : List Literal) → i < length ss → now ≡ first_places (resolvents db c (take i ss)) → next ≡ resolvent (get_or ss i d).1 now (clause_at db (get_or ss i d).0) → next ≡ first_places (resolvents db c (take (i + 1) ss))
 resolvents_more db c ss i d now next h e f =
@@ -146,11 +138,6 @@ pub none_missing : (n : ℕ) (ss : List Step) → find (nat_le n) (map named ss)
 none_missing n [] e k d h = absurd (omega arith)
 none_missing n (s ∷ ss) e k d h =
     ⊎_elim (λ t. cc) (λ f. at_step n s ss (leb-false n s.0.0 f) (none_missing n ss (sym (cond-false (nat_le n s.0.0) (Some s.0.0) (find (nat_le n) (map named ss)) f) ∙ e)) k d h) (cases_Bool (nat_le n s.0.0))
-
--- one turn of the look-up
-pub find_more : (n : ℕ) (ss : List Step) (i : ℕ) (s : Step) → i < length ss → s ≡ get_or ss i s → find (nat_le n) (map named (drop i ss)) ≡ cond (nat_le n s.0.0) (Some s.0.0) (find (nat_le n) (map named (drop (i + 1) ss)))
-find_more n ss i s h e =
-    ap (λ (zs : List Step). find (nat_le n) (map named zs)) (drop-cons ss i s h ∙ (ap (λ (t : Step). t ∷ drop (suc i) ss) (sym e) ∙ ap (λ (m : ℕ). s ∷ drop m ss) (sym (add-one i))))
 
 pub resolvents_none : (db : List (List Literal)) (c : List Literal) (ss : List Step) → length ss ≡ 0 → resolvents db c ss ≡ c
 unfolding resolvents

@@ -12,6 +12,3 @@ pub mod resolvent;
 pub use error::LogError;
 pub use log::Log;
 pub use resolvent::Resolvent;
-
-#[cfg(test)]
-mod tests;

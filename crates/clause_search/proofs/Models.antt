@@ -1,7 +1,7 @@
 -- A closed path that gives each variable a value is a model.
 use Rattle.std.proofs.Common.{◌≡◌, ℕ, ◌+◌, ◌<◌, Bool, true, false, not, cond, Option, Some, None, List, [], ◌∷◌, ◌++◌, length, take, get_or, map, refl, sym, ◌∙◌, ap, subst, arith, ◌⊎◌, ⊎_elim, inl, inr}
 use Rattle.std.specs.List.{Contains}
-use Rattle.std.proofs.lemmas.List.{get_or_append_left, get_or_push, length_push, length-append, take-append-le, take_all, get_or_default, append-nil}
+use Rattle.std.proofs.lemmas.List.{get_or_append_left, get_or_push, length_push, length-append, take-append-le, take_all, get_or_default}
 use Rattle.std.proofs.lemmas.Bool.{cases_lt, cases_Bool}
 use Rattle.cnf_clauses.specs.Literal.{Literal, opposite, value_of}
 use Rattle.cnf_clauses.specs.declared.lit.ClauseId.{ClauseId}
@@ -90,9 +90,6 @@ IsSearch-start db path reasons starts n path-is starts-is over some = record {
   over = over;
   some = some;
 }
-
-pub clauses_start : (fs later : List (List Literal)) (ls : List Line) → later ≡ fs → ls ≡ [] → all_clauses later ls ≡ fs
-clauses_start fs later ls fs-is ls-is = ap (all_clauses later) ls-is ∙ (append-nil later ∙ fs-is)
 
 pub length-added : (fs : List (List Literal)) (ls new : List Line) → AddsNew fs ls new → length new ≡ length ls + 1
 length-added fs ls new a = ap length a.items ∙ length_push ls a.line

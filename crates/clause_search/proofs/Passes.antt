@@ -200,13 +200,6 @@ listed_moved pairs old more new i id p gone other l room i-in a r id-is p-is bot
       listed_removed more new (code_of gone) i k (code_of s.second) id i-in r id-is ne (listed_added old more (code_of l) (code_of s.second) id (id_of k) a at.1),
     )) (cases_eq k id.0)
 
--- the pass ends: nothing waits
-pub passing_end : (db : List (List Literal)) (path : List Literal) (q : ℕ) (starts : List ℕ) (pairs : List (Option Pair)) (ids : List ClauseId) (i : ℕ) → length ids ≤ i → IsPassing db path q starts pairs ids i → IsWatching db path (q + 1) starts pairs
-passing_end db path q starts pairs ids i h w k k-in = ⊎_elim (λ (j, low, j-in, is). absurd (omega arith)) (λ held. held) (w k k-in).1
-
-pub passing_now : (db : List (List Literal)) (path : List Literal) (q : ℕ) (starts : List ℕ) (pairs : List (Option Pair)) (ids : List ClauseId) (i : ℕ) → IsPassing db path q starts pairs ids i → IsWatching db path q starts pairs
-passing_now db path q starts pairs ids i w k k-in = (w k k-in).0
-
 -- at rest each clause is closed: the contract of plain propagation
 pub watching_is_closed : (db : List (List Literal)) (path : List Literal) (reasons : List (Option ClauseId)) (starts : List ℕ) (places : List (Option ℕ)) (q : ℕ) (pairs : List (Option Pair)) → IsTrail path reasons starts places → length path ≤ q → ((k : ℕ) → k < length db → get_or db k [] ≡ [] → ⊥) → IsWatching db path q starts pairs → IsClosedFor path db
 watching_is_closed db path reasons starts places q pairs t rest some w k k-in = held_closed path reasons starts places q (get_or db k []) (get_or pairs k None) t rest (some k k-in) (w k k-in)

@@ -2,13 +2,12 @@
 use Rattle.std.proofs.Common.{◌≡◌, ℕ, ◌+◌, ◌-◌, ◌<◌, ◌≤◌, Bool, true, false, not, Option, Some, None, List, [], ◌∷◌, ◌++◌, length, take, drop, get_or, set, refl, sym, ◌∙◌, ap, subst, arith, ⊎_elim}
 use Rattle.std.specs.List.{Contains}
 use Rattle.std.proofs.lemmas.List.{get_or_append_left, get_or_push, length_push, get_or-take, length-take, take_more, get_or_past, get_or_default, get_or-set_same, get_or-set_other, length-set, get_or-drop, length-drop}
-use Rattle.std.proofs.lemmas.List.Sums.{sum_by-set}
 use Rattle.std.proofs.lemmas.List.Elements.{Contains-push_cases}
 use Rattle.std.proofs.lemmas.Bool.{cases_lt, cases_eq}
 use Rattle.cnf_clauses.specs.Literal.{Literal, opposite}
 use Rattle.cnf_clauses.specs.declared.lit.ClauseId.{ClauseId}
-use Rattle.clause_log.proofs.Resolving.{opposite_other, literal_equal, same_or_other}
-use Rattle.clause_search.specs.Path.{IsFalseIn, AllButFalseIn, IsClosed, one_if_free, free_count, IsTrail}
+use Rattle.clause_log.proofs.Resolving.{opposite_other, literal_equal}
+use Rattle.clause_search.specs.Path.{IsFalseIn, AllButFalseIn, IsTrail}
 
 abbrev pub no_lit : Literal
 no_lit = record { var = 0; negated = false }
@@ -41,9 +40,6 @@ IsTrail-push path reasons starts places l r n t inside free n-is = record {
   narrow = omega (arith, t.narrow, length-set places l.var (Some n));
   rising = t.rising;
 }
-
-pub free_count-push : (places : List (Option ℕ)) (v n : ℕ) → v < length places → get_or places v None ≡ None → free_count (set places v (Some n)) + 1 ≡ free_count places
-free_count-push places v n h e = omega (arith, sum_by-set one_if_free places v (Some n) None h, ap one_if_free e)
 
 pub IsTrail-cut : (path : List Literal) (reasons : List (Option ClauseId)) (starts : List ℕ) (places new : List (Option ℕ)) (level n : ℕ) → IsTrail path reasons starts places → level < length starts → n ≡ get_or starts level 0
     → ((k : ℕ) (d : Literal) → k < length (drop n path) → get_or new (get_or (drop n path) k d).var None ≡ None)
@@ -135,16 +131,6 @@ signs false false ne = absurd (ne refl)
 -- two literals of a variable are one, or opposite
 pub other_sign : (a b : Literal) → a.var ≡ b.var → (a ≡ b → ⊥) → a ≡ opposite b
 other_sign a b e ne = literal_equal a (opposite b) e (signs a.negated b.negated (λ f. ne (literal_equal a b e f)))
-
--- when a clause is closed
-pub closed_true : (path : List Literal) (reasons : List (Option ClauseId)) (starts : List ℕ) (places : List (Option ℕ)) (c : List Literal) (t : Literal) → IsTrail path reasons starts places → Contains c t → Contains path t → IsClosed path c
-closed_true path reasons starts places c t trail t-in t-true u all =
-    ⊎_elim (λ same. subst (Contains path) same t-true) (λ other. absurd (consistent path reasons starts places t trail t-true (all t t-in other))) (same_or_other t u)
-
-pub closed_two : (path : List Literal) (reasons : List (Option ClauseId)) (starts : List ℕ) (places : List (Option ℕ)) (c : List Literal) (a b : Literal) → IsTrail path reasons starts places → Contains c a → Contains c b → (a ≡ b → ⊥) → get_or places a.var None ≡ None → get_or places b.var None ≡ None → IsClosed path c
-closed_two path reasons starts places c a b trail a-in b-in ne a-free b-free u all =
-    ⊎_elim (λ same. absurd (free_is_not path reasons starts places b (opposite b) trail b-free refl (all b b-in (λ e. ne (same ∙ sym e)))))
-    (λ other. absurd (free_is_not path reasons starts places a (opposite a) trail a-free refl (all a a-in other))) (same_or_other a u)
 
 -- the same, where a loop names the literal
 pub all_but_item : (path : List Literal) (u : Literal) (c : List Literal) (i : ℕ) (l : Literal) → i < length c → l ≡ get_or c i l → AllButFalseIn path u (take i c) → ((l ≡ u → ⊥) → IsFalseIn path l) → AllButFalseIn path u (take (i + 1) c)

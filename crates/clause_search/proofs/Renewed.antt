@@ -22,9 +22,6 @@ use Rattle.clause_search.proofs.Passes.{listed_added, pair_in_range}
 default_same : (xs : List Literal) (p : ℕ) (d e : Literal) → p < length xs → get_or xs p e ≡ get_or xs p d
 default_same xs p d e h = get_or_default xs p e d h
 
-none_some_pair : (p : Pair) → None ≡ Some p → ⊥
-none_some_pair p e = cc
-
 pair_inside : (p s : Pair) → Some p ≡ Some s → p ≡ s
 pair_inside p s e = cc
 
@@ -80,12 +77,6 @@ watching_learnt db c path starts pairs level u o low inside rising lens w new k 
     (λ ge. let k-is : length db ≡ k = omega (arith, length_push db c) in
     subst (λ (x : List Literal). Held x (get_or (pairs ++ o ∷ []) k None)) (sym (get_or_push db c [] k k-is))
     (subst (Held c) (sym (get_or_push pairs o None k (lens ∙ k-is))) new)) (cases_lt k (length db))
-
--- the lists with a new clause
-pub listed_none : (pairs : List (Option Pair)) (lists : List (List ClauseId)) → IsListed pairs lists → IsListed (pairs ++ None ∷ []) lists
-listed_none pairs lists all k p e =
-    ⊎_elim (λ lt. all k p (sym (get_or_append_left pairs (None ∷ []) None k lt) ∙ e))
-    (λ ge. absurd (none_some_pair p (sym (get_or_push pairs None None k (omega (arith, length_push {X = Option Pair} pairs None, pair_in_range (pairs ++ None ∷ []) k p e))) ∙ e))) (cases_lt k (length pairs))
 
 pub listed_new : (pairs : List (Option Pair)) (old more new : List (List ClauseId)) (id : ClauseId) (a b : Literal) → id.0 ≡ length pairs → IsAdded old more (code_of a) id → IsAdded more new (code_of b) id → IsListed pairs old → IsListed (pairs ++ Some record { first = a; second = b } ∷ []) new
 listed_new pairs old more new id a b id-is add1 add2 all k p e =

@@ -1,5 +1,5 @@
 -- What is read of rows, and what a push leaves.
-use Rattle.std.proofs.Common.{◌≡◌, ℕ, ◌+◌, ◌-◌, ◌<◌, ◌≤◌, List, [], ◌∷◌, ◌++◌, length, take, drop, get_or, refl, sym, ◌∙◌, ap, arith, ⊎_elim, lit<, ◌^◌, zero, suc}
+use Rattle.std.proofs.Common.{◌≡◌, ℕ, ◌+◌, ◌-◌, ◌<◌, ◌≤◌, List, [], ◌∷◌, ◌++◌, length, take, drop, get_or, refl, sym, ◌∙◌, ap, arith, ⊎_elim, ◌^◌, zero, suc}
 use Rattle.std.proofs.lemmas.List.{get_or_append_left, get_or_push, drop-append-le, take-append-le, length-drop, drop_at, length_push, length-append, get_or-take, length-take, length-take-le, take-append-drop, take_more, take_all}
 use Rattle.std.proofs.Math.Seq.{take-append_seam}
 use Rattle.std.proofs.lemmas.List.FromFn.{length-map-range_with_len, get_or-map-range_with_len, fill_by_all}
@@ -13,9 +13,6 @@ length-rows_of xs es = length-map-range_with_len (row_at xs es) 0 (length es)
 pub get_or-rows_of : {T : Type 0} (xs : List T) (es : List ℕ) (k : ℕ) → k < length es → get_or (rows_of xs es) k [] ≡ row_at xs es k
 unfolding rows_of
 get_or-rows_of xs es k h = get_or-map-range_with_len (row_at xs es) 0 (length es) k k [] h (omega arith)
-
-pub AreRows-nil : {T : Type 0} → AreRows {T = T} [] []
-AreRows-nil = record { rising = λ k h. absurd (omega arith); inside = λ k h. absurd (omega arith); last = refl; few = lit< tt }
 
 start_same : (es : List ℕ) (n k : ℕ) → k ≤ length es → row_start (es ++ n ∷ []) k ≡ row_start es k
 start_same es n k h = get_or_append_left (0 ∷ es) (n ∷ []) 0 k (omega arith)

@@ -11,6 +11,3 @@ pub mod rows;
 pub use formula::Formula;
 pub use lit::{ClauseId, Lit};
 pub use rows::Rows;
-
-#[cfg(test)]
-mod tests;

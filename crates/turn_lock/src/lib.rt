@@ -30,6 +30,3 @@ pub use kept::Kept;
 pub use lock::TurnLock;
 pub use memory::Memory;
 pub use pass::{Held, Pass};
-
-#[cfg(test)]
-mod tests;

@@ -8,6 +8,9 @@
 ghost use Rattle.std.specs.Prelude.{◌≤◌, IfSome};
 
 mod counter;
+mod dealing;
+#[cfg(test)]
+mod tests;
 mod threads;
 
 use std::time::Instant;

@@ -1,5 +1,5 @@
 use Rattle.std.proofs.Common.{◌≡◌, length}
-use Rattle.turn_lock.proofs.tests.add_all.Given as goal
+use Rattle.turn_lock_bench.proofs.tests.add_all.Given as goal
 
 abbrev pub invariant-loop-n : goal.invariant-loop-n
 invariant-loop-n g l = record {

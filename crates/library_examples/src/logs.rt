@@ -1,5 +1,4 @@
-use crate::error::LogError;
-use crate::log::Log;
+use clause_log::{Log, LogError};
 use cnf_clauses::formula::Formula;
 use cnf_clauses::lit::{ClauseId, Lit};
 use std::test::Fail;

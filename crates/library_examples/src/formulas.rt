@@ -1,6 +1,4 @@
-use crate::formula::Formula;
-use crate::lit::Lit;
-use crate::rows::Rows;
+use cnf_clauses::{Formula, Lit, Rows};
 use std::test::Fail;
 
 #[test]

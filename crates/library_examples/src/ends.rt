@@ -1,11 +1,11 @@
 ghost use Rattle.axe_io.specs.Shapes.{leaf_widths};
 ghost use Rattle.axe_io.specs.Inputs.{IsInput};
 
-use crate::{
-    Budgets, FileStore, Gate, Input, Kind, Memory, MemorySink, MemoryStore, OpenGate, OutPlace,
-    OutputSink, Param, Point, Shape, Sink, SinkError, Store, StoreError, Stored, WriteEnd,
-    write_all,
+use axe_io::{
+    Budgets, FileStore, Gate, Input, Kind, MemorySink, MemoryStore, OpenGate, OutPlace, OutputSink,
+    Param, Point, Shape, Sink, SinkError, Store, StoreError, Stored, WriteEnd, write_all,
 };
+use memory::Memory;
 use std::alloc::Global;
 use std::test::Fail;
 

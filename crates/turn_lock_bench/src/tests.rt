@@ -1,13 +1,13 @@
-ghost use Rattle.std.specs.Prelude.{◌≡◌, ◌+◌, ◌-◌, ◌<◌, ◌^◌, ◌∷◌, [], ℕ, IfOk, All, length};
-ghost use Rattle.turn_lock.specs.Entries.{empty_rows, least_of};
+ghost use Rattle.std.specs.Prelude.{◌≡◌, length};
 ghost use Rattle.turn_lock.specs.Seen.{name_of};
 
-use crate::{Kept, Memory, Pass, TurnLock};
-use std::alloc::{AllocError, Global};
+use crate::dealing::{deal, gather};
+use std::alloc::Global;
 use std::process::Abort;
 use std::sync::Wait;
 use std::test::Fail;
 use std::thread::{Threads, join, map_vec};
+use turn_lock::{Kept, Memory, Pass, TurnLock};
 
 /// A list of numbered entries, whose name stays.
 #[derive(Drop)]
@@ -66,49 +66,6 @@ fn add_all<R: Wait + Abort>(
         pass = add(rt, lock, pass, n);
     }
     pass
-}
-
-/// A pass for each number but 0, which the first pass keeps.
-#[tactic(auto, using(crate::proofs::DealLemmas::first_left, crate::proofs::DealLemmas::last_given, crate::proofs::DealLemmas::may_split))]
-fn deal(
-    alloc: Global,
-    lock: &TurnLock<Journal>,
-    pass: Pass<Journal>,
-    workers: u32,
-) -> Result<(Pass<Journal>, Vec<Pass<Journal>>), AllocError>
-    requires lock { pass.lock ≡ name_of lock.now }
-    requires rows { (pass.rows ≡ empty_rows 0 (workers + 1)) × (workers + 1 < 2 ^ 32) }
-    ensures first { IfOk result (λ r. (r.0.lock ≡ pass.lock) × (r.0.rows ≡ empty_rows 0 1)) }
-    ensures each { IfOk result (λ r. (length r.1.items ≡ workers) × All (λ p. (p.lock ≡ pass.lock) × (length p.rows ≡ 1)) r.1.items) }
-{
-    let mut passes = Vec::new(alloc);
-    let mut pass = pass;
-    for i in 0..workers {
-        let (rest, one) = lock.split_pass(pass, 1);
-        pass = rest;
-        passes.push(one)?;
-    }
-    Ok((pass, passes))
-}
-
-/// One pass with the numbers of all.
-fn gather(
-    lock: &TurnLock<Journal>,
-    first: Pass<Journal>,
-    passes: Vec<Pass<Journal>>,
-) -> Pass<Journal>
-    requires lock { first.lock ≡ name_of lock.now }
-    requires each { All (λ p. (p.lock ≡ first.lock) × (length p.rows ≡ 1)) passes.items }
-    ensures lock { result.lock ≡ first.lock }
-    ensures wide { length result.rows ≡ length first.rows + length passes.items }
-{
-    let mut all = first;
-    let mut passes = passes;
-    while let Some(pass) = passes.pop() {
-        all = lock.join_pass(all, pass);
-    }
-    passes.destroy_empty();
-    all
 }
 
 /// Whether the entries from 0 on of each worker stand in its order, as many as its turns, and

@@ -1,4 +1,4 @@
-use crate::{Row, Table, each_case, first_of};
+use case_tables::{Row, Table, each_case, first_of};
 
 #[derive(Clone, Copy, Debug, PartialEq, Eq)]
 struct Numeral {
