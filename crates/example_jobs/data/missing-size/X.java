@@ -1,0 +1,5 @@
+class X {
+    static byte f(byte[] a) {
+        return (byte) (a[0] + a[1]);
+    }
+}

@@ -1,0 +1,5 @@
+class X {
+    static byte f(byte x) {
+        return (byte) (x + 1);
+    }
+}

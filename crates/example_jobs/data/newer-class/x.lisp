@@ -1,0 +1,1 @@
+(defun f (x) (bvplus 8 x 1))

@@ -1,0 +1,1 @@
+(defun f (x) (list x (bvnot 8 x)))

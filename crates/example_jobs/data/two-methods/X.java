@@ -1,0 +1,9 @@
+class X {
+    static byte f(byte x) {
+        return x;
+    }
+
+    static byte f(byte x, byte y) {
+        return (byte) (x & y);
+    }
+}

@@ -1,0 +1,5 @@
+class X {
+    static byte f(byte x, byte y) {
+        return (byte) (x ^ y);
+    }
+}

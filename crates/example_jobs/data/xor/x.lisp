@@ -1,0 +1,1 @@
+(defun f (x y) (bvxor 8 x y))
