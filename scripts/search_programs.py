@@ -6,16 +6,12 @@ import subprocess
 import tempfile
 import time
 
-ROOT = os.path.dirname(os.path.dirname(os.path.abspath(__file__)))
+from programs import proved
 
 
 def built_program(name="clause_search_dimacs"):
-    """A program of this repository, by default the search. It is built where it isn't there."""
-    folder = os.path.join(ROOT, "crates", name)
-    program = os.path.join(folder, "out", name)
-    if not os.path.exists(program):
-        subprocess.run(["rt", "run"], cwd=folder, stdin=subprocess.DEVNULL, stdout=subprocess.DEVNULL, check=True)
-    return program
+    """A program of this repository, by default the search."""
+    return proved(name)
 
 
 def packaged_solver():
