@@ -10,8 +10,6 @@ mod builder;
 mod kinds;
 mod pairs;
 mod sbox;
-#[cfg(test)]
-mod tests;
 mod views;
 
 use builder::{Builder, Fault};
