@@ -1,0 +1,12 @@
+use Rattle.std.proofs.Common.{arith, rules}
+use Rattle.cipher_gen.proofs.Rounds.{all_rounds, more, done}
+use Rattle.cipher_gen.proofs.specification.all_bindings.Goals as goal
+
+pub loop-round-init : goal.loop-round-init
+loop-round-init c = rw c.new-text.ensures.bytes (all_rounds _ _)
+
+pub loop-round-preserved : goal.loop-round-preserved
+loop-round-preserved c = more _ _ _ _ _ _ (omega arith) (search rules) c.loop-round.invariant
+
+pub returns : goal.returns
+returns c = done _ _ _ _ _ (omega arith) c.loop-round.invariant
