@@ -6,7 +6,7 @@ use Rattle.jvm_code.specs.declared.decoding.CodeError.{CodeError}
 use Rattle.jvm_code.specs.declared.decoding.CodeError.TheVariants.{OutOfCode, OutsideTable, Cut}
 use Rattle.jvm_code.specs.declared.operands.Values.{Values}
 use Rattle.jvm_code.specs.declared.table.Operands.{Operands}
-use Rattle.jvm_code.specs.declared.table.Operands.TheVariants.{Nothing, SignedByte, SignedShort, SignedInt, UnsignedByte, UnsignedShort, LocalAndByte, LocalAndShort, Wide}
+use Rattle.jvm_code.specs.declared.table.Operands.TheVariants.{Nothing, SignedByte, SignedShort, SignedInt, UnsignedByte, UnsignedShort, LocalAndByte, LocalAndShort, ConstantAndByte, Wide}
 use Rattle.jvm_code.specs.declared.table.OpRow.{OpRow}
 use Rattle.jvm_code.specs.Opcodes.{opcode_table, wide_table, row_of}
 
@@ -33,6 +33,7 @@ operands_in UnsignedByte (a ∷ rest) = values (pos a) (pos 0) 1
 operands_in UnsignedShort (a ∷ (b ∷ rest)) = values (pos (u2 a b)) (pos 0) 2
 operands_in LocalAndByte (a ∷ (b ∷ rest)) = values (pos a) (cast_signed w8 b) 2
 operands_in LocalAndShort (a ∷ (b ∷ (c ∷ (d ∷ rest)))) = values (pos (u2 a b)) (s2 c d) 4
+operands_in ConstantAndByte (a ∷ (b ∷ (c ∷ rest))) = values (pos (u2 a b)) (pos c) 3
 operands_in _ _ = None
 
 -- an opcode with its operands, behind so many bytes

@@ -2,7 +2,7 @@
 -- SE 8, 6.5 and 7).
 use Rattle.std.specs.Prelude.{ℕ, ◌==◌, List, [], ◌∷◌, Option, find}
 use Rattle.jvm_code.specs.declared.table.Operands.{Operands}
-use Rattle.jvm_code.specs.declared.table.Operands.TheVariants.{Nothing, SignedByte, SignedShort, SignedInt, UnsignedByte, UnsignedShort, LocalAndByte, LocalAndShort, Wide}
+use Rattle.jvm_code.specs.declared.table.Operands.TheVariants.{Nothing, SignedByte, SignedShort, SignedInt, UnsignedByte, UnsignedShort, LocalAndByte, LocalAndShort, ConstantAndByte, Wide}
 use Rattle.jvm_code.specs.declared.table.OpRow.{OpRow}
 
 abbrev pub entry : ℕ → Operands → OpRow
@@ -44,6 +44,7 @@ opcode_table =
     entry 45 Nothing ∷  -- aload_3
     entry 46 Nothing ∷  -- iaload
     entry 47 Nothing ∷  -- laload
+    entry 50 Nothing ∷  -- aaload
     entry 51 Nothing ∷  -- baload
     entry 52 Nothing ∷  -- caload
     entry 53 Nothing ∷  -- saload
@@ -64,6 +65,7 @@ opcode_table =
     entry 78 Nothing ∷  -- astore_3
     entry 79 Nothing ∷  -- iastore
     entry 80 Nothing ∷  -- lastore
+    entry 83 Nothing ∷  -- aastore
     entry 84 Nothing ∷  -- bastore
     entry 85 Nothing ∷  -- castore
     entry 86 Nothing ∷  -- sastore
@@ -82,6 +84,10 @@ opcode_table =
     entry 101 Nothing ∷  -- lsub
     entry 104 Nothing ∷  -- imul
     entry 105 Nothing ∷  -- lmul
+    entry 108 Nothing ∷  -- idiv
+    entry 109 Nothing ∷  -- ldiv
+    entry 112 Nothing ∷  -- irem
+    entry 113 Nothing ∷  -- lrem
     entry 116 Nothing ∷  -- ineg
     entry 117 Nothing ∷  -- lneg
     entry 120 Nothing ∷  -- ishl
@@ -126,8 +132,10 @@ opcode_table =
     entry 179 UnsignedShort ∷  -- putstatic
     entry 184 UnsignedShort ∷  -- invokestatic
     entry 188 UnsignedByte ∷  -- newarray
+    entry 189 UnsignedShort ∷  -- anewarray
     entry 190 Nothing ∷  -- arraylength
     entry 196 Wide ∷  -- wide
+    entry 197 ConstantAndByte ∷  -- multianewarray
     entry 198 SignedShort ∷  -- ifnull
     entry 199 SignedShort ∷  -- ifnonnull
     entry 200 SignedInt ∷  -- goto_w

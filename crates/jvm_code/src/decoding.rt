@@ -15,7 +15,7 @@ pub struct Inst {
     /// The first operand, 0 where there is none: a signed value or offset, or an unsigned local, number of a
     /// constant or kind of an element.
     pub first: i32,
-    /// The second operand, 0 where there is none: the signed amount of `iinc`.
+    /// The second operand, 0 where there is none: the signed amount of `iinc`, or the dimensions of `multianewarray`.
     pub second: i32,
     /// How many bytes the instruction takes, from 1 to 6.
     pub size: u32,

@@ -1,6 +1,6 @@
 ghost use Rattle.std.specs.Prelude.{◌≡◌, ◌≤◌, length, pos, IfSome};
 ghost use Rattle.jvm_code.specs.Instructions.{operands_in, values};
-ghost use Rattle.jvm_code.specs.declared.table.Operands.TheVariants.{SignedByte, SignedShort, SignedInt, UnsignedByte, UnsignedShort, LocalAndByte, LocalAndShort};
+ghost use Rattle.jvm_code.specs.declared.table.Operands.TheVariants.{SignedByte, SignedShort, SignedInt, UnsignedByte, UnsignedShort, LocalAndByte, LocalAndShort, ConstantAndByte};
 
 use crate::table::Operands;
 use case_tables::each_case;
@@ -27,6 +27,7 @@ pub fn operands_in(shape: Operands, rest: &[u8]) -> Option<Values>
         Operands::UnsignedShort => unsigned_short(rest),
         Operands::LocalAndByte => local_and_byte(rest),
         Operands::LocalAndShort => local_and_short(rest),
+        Operands::ConstantAndByte => constant_and_byte(rest),
         Operands::Wide => None,
     )
 }
@@ -114,6 +115,20 @@ fn local_and_short(rest: &[u8]) -> Option<Values>
             first: i32::from(u16::from_be_bytes([*a, *b])),
             second: i32::from(i16::from_be_bytes([*c, *d])),
             count: 4,
+        }),
+        _ => None,
+    }
+}
+
+fn constant_and_byte(rest: &[u8]) -> Option<Values>
+    ensures operands { result ≡ operands_in ConstantAndByte rest.now }
+    ensures within { IfSome result (λ v. (v.count ≤ 4) × (v.count ≤ length rest.now)) }
+{
+    match rest {
+        [a, b, c, ..] => Some(Values {
+            first: i32::from(u16::from_be_bytes([*a, *b])),
+            second: i32::from(*c),
+            count: 3,
         }),
         _ => None,
     }

@@ -23,6 +23,8 @@ pub enum Operands {
     LocalAndByte,
     /// A local in two bytes, and a signed number of two bytes.
     LocalAndShort,
+    /// A constant's number in two bytes, and a byte.
+    ConstantAndByte,
     /// An opcode and its operands.
     Wide,
 }
@@ -50,7 +52,7 @@ macro_rules! rows {
     };
 }
 
-static OPCODES: [OpRow; 120] = rows![
+static OPCODES: [OpRow; 128] = rows![
     0 => Nothing, // nop
     1 => Nothing, // aconst_null
     2 => Nothing, // iconst_m1
@@ -84,6 +86,7 @@ static OPCODES: [OpRow; 120] = rows![
     45 => Nothing, // aload_3
     46 => Nothing, // iaload
     47 => Nothing, // laload
+    50 => Nothing, // aaload
     51 => Nothing, // baload
     52 => Nothing, // caload
     53 => Nothing, // saload
@@ -104,6 +107,7 @@ static OPCODES: [OpRow; 120] = rows![
     78 => Nothing, // astore_3
     79 => Nothing, // iastore
     80 => Nothing, // lastore
+    83 => Nothing, // aastore
     84 => Nothing, // bastore
     85 => Nothing, // castore
     86 => Nothing, // sastore
@@ -122,6 +126,10 @@ static OPCODES: [OpRow; 120] = rows![
     101 => Nothing, // lsub
     104 => Nothing, // imul
     105 => Nothing, // lmul
+    108 => Nothing, // idiv
+    109 => Nothing, // ldiv
+    112 => Nothing, // irem
+    113 => Nothing, // lrem
     116 => Nothing, // ineg
     117 => Nothing, // lneg
     120 => Nothing, // ishl
@@ -166,8 +174,10 @@ static OPCODES: [OpRow; 120] = rows![
     179 => UnsignedShort, // putstatic
     184 => UnsignedShort, // invokestatic
     188 => UnsignedByte, // newarray
+    189 => UnsignedShort, // anewarray
     190 => Nothing, // arraylength
     196 => Wide, // wide
+    197 => ConstantAndByte, // multianewarray
     198 => SignedShort, // ifnull
     199 => SignedShort, // ifnonnull
     200 => SignedInt, // goto_w

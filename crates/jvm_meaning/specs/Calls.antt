@@ -19,12 +19,12 @@ use Rattle.jvm_state.specs.declared.sorts.Width.{Width}
 use Rattle.jvm_state.specs.declared.sorts.Width.TheVariants as width
 use Rattle.jvm_meaning.specs.declared.operation.Turn.{Turn}
 use Rattle.jvm_meaning.specs.declared.operation.Turn.TheVariants as turn
-use Rattle.jvm_meaning.specs.declared.types.FieldType.{FieldType}
-use Rattle.jvm_meaning.specs.declared.types.FieldType.TheVariants.{Scalar, Array}
+use Rattle.jvm_state.specs.declared.types.FieldType.{FieldType}
+use Rattle.jvm_state.specs.declared.types.FieldType.TheVariants.{Scalar, Array}
 use Rattle.jvm_meaning.specs.declared.calls.Callee.{Callee}
 use Rattle.jvm_meaning.specs.declared.calls.Callee.TheVariants.{Own, Rotation}
 use Rattle.jvm_state.specs.declared.frame.Frame.{Frame}
-use Rattle.jvm_meaning.specs.Types.{Types, method_type}
+use Rattle.jvm_meaning.specs.Types.{Types, deepest, method_type}
 use Rattle.jvm_state.specs.Arrays.{Arrays}
 use Rattle.jvm_meaning.specs.Fields.{stored, pop_typed}
 use Rattle.jvm_meaning.specs.Constants.{Member, method_named, is_own}
@@ -109,7 +109,7 @@ pop_arguments (type ∷ types) arrays taken stack = do
   pop_arguments types arrays (top.0 ∷ taken) top.1
 
 abbrev pub types_called : Contents → MethodId → Part Types
-types_called class method = found (method_type (desc_of class method)) (Refused (OutsideProfile 184))
+types_called class method = found (method_type deepest (desc_of class method)) (Refused (OutsideProfile 184))
 
 -- the arguments and the first frame of a method that is called where so many frames are open, and the caller's stack
 abbrev pub called : {I L E : Type 0} → Contents → ℕ → ℕ → MethodId → Arrays E → Operands I L → Part (Frame I L × Operands I L)
@@ -127,7 +127,7 @@ is_returned_by None None = true
 is_returned_by (Some sort.Long) (Some (Scalar kind.Long)) = true
 is_returned_by (Some sort.Int) (Some (Scalar kind.Long)) = false
 is_returned_by (Some sort.Int) (Some (Scalar k)) = true
-is_returned_by (Some sort.Reference) (Some (Array k)) = true
+is_returned_by (Some sort.Reference) (Some (Array type)) = true
 is_returned_by _ _ = false
 
 -- the value of the result's type at the top; nothing of a method without result

@@ -13,6 +13,10 @@ use Rattle.jvm_state.specs.declared.value.Reason.TheVariants.{OutsideProfile}
 use Rattle.jvm_state.specs.declared.stop.Stop.TheVariants.{Refused}
 use Rattle.jvm_state.specs.declared.sorts.Width.{Width}
 use Rattle.jvm_state.specs.declared.sorts.Width.TheVariants as width
+use Rattle.jvm_state.specs.declared.types.ArrayType.{ArrayType}
+use Rattle.jvm_state.specs.declared.types.FieldType.{FieldType}
+use Rattle.jvm_state.specs.declared.types.FieldType.TheVariants.{Array}
+use Rattle.jvm_meaning.specs.Types.{deepest, field_type}
 use Rattle.jvm_state.specs.Stops.{Part, ◌>>=◌, found}
 use Rattle.jvm_state.specs.Stacks.{Operands, push}
 
@@ -35,6 +39,14 @@ named_by pool _ = None
 
 abbrev pub class_name : Contents → ℕ → Option (List ℕ)
 class_name class number = named_by class.pool (constant_of class.pool number)
+
+-- the array type that a Class entry names
+abbrev pub as_array : Option FieldType → Option ArrayType
+as_array (Some (Array type)) = Some type
+as_array _ = None
+
+abbrev pub array_class : Contents → ℕ → Option ArrayType
+array_class class number = option_and_then (λ name. as_array (field_type deepest name)) (class_name class number)
 
 -- a field or method: the name of its class, its own name, and its descriptor
 pub record Member : Type 0 where

@@ -12,12 +12,12 @@ use Rattle.jvm_state.specs.declared.value.Value.{Value}
 use Rattle.jvm_state.specs.declared.value.Value.TheVariants as value
 use Rattle.jvm_state.specs.declared.value.Reason.TheVariants.{UnknownField, WrongOperand}
 use Rattle.jvm_state.specs.declared.stop.Stop.TheVariants.{Refused}
-use Rattle.jvm_meaning.specs.declared.types.FieldType.{FieldType}
-use Rattle.jvm_meaning.specs.declared.types.FieldType.TheVariants.{Scalar, Array}
+use Rattle.jvm_state.specs.declared.types.FieldType.{FieldType}
+use Rattle.jvm_state.specs.declared.types.FieldType.TheVariants.{Scalar, Array}
 use Rattle.jvm_meaning.specs.declared.fields.Place.{Place}
 use Rattle.jvm_state.specs.declared.heap.Heap.{Heap}
 use Rattle.jvm_state.specs.Values.{narrowed}
-use Rattle.jvm_meaning.specs.Types.{field_type}
+use Rattle.jvm_meaning.specs.Types.{deepest, field_type}
 use Rattle.jvm_state.specs.Arrays.{Arrays, refers_to}
 use Rattle.jvm_meaning.specs.Constants.{Member, field_named, is_own}
 use Rattle.jvm_state.specs.Stops.{Part, ◌>>=◌, refused, found}
@@ -31,9 +31,9 @@ fits (Scalar kind.Long) arrays (value.Long n) = true
 fits (Scalar kind.Long) arrays _ = false
 fits (Scalar _) arrays (value.Int n) = true
 fits (Scalar _) arrays _ = false
-fits (Array kind) arrays value.Null = true
-fits (Array kind) arrays (value.Array k) = refers_to kind arrays (Some k)
-fits (Array kind) arrays _ = false
+fits (Array type) arrays value.Null = true
+fits (Array type) arrays (value.Array k) = refers_to type arrays (Some k)
+fits (Array type) arrays _ = false
 
 -- a value of a type as it is stored or returned: bytes, chars and shorts are narrowed, and extended again
 abbrev pub stored : FieldType → Value ℕ ℕ → Value ℕ ℕ
@@ -50,7 +50,7 @@ pop_typed type arrays stack = do
 abbrev pub default_value : FieldType → Value ℕ ℕ
 default_value (Scalar kind.Long) = value.Long 0
 default_value (Scalar _) = value.Int 0
-default_value (Array kind) = value.Null
+default_value (Array type) = value.Null
 
 -- ---- starting values
 
@@ -68,7 +68,7 @@ start_typed pool (Some type) (Some number) = constant_value type (constant_of po
 
 -- the value that a field starts with; a field that isn't static is never read, and its ConstantValue doesn't count
 abbrev pub start_value : Pool → Field → Value ℕ ℕ
-start_value pool field = if is_static field.flags then start_typed pool (field_type field.desc) field.value else value.Null
+start_value pool field = if is_static field.flags then start_typed pool (field_type deepest field.desc) field.value else value.Null
 
 abbrev pub start_values : Contents → List (Value ℕ ℕ)
 start_values class = map (start_value class.pool) class.fields
@@ -82,7 +82,7 @@ abbrev pub placed : ℕ → Option FieldType → Option Place
 placed at type = option_map (place at) type
 
 abbrev pub static_in : Field → ℕ → Option Place
-static_in field at = if is_static field.flags then placed at (field_type field.desc) else None
+static_in field at = if is_static field.flags then placed at (field_type deepest field.desc) else None
 
 abbrev pub static_at : Option Field → ℕ → Option Place
 static_at None at = None

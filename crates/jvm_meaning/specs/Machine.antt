@@ -31,14 +31,14 @@ use Rattle.jvm_meaning.specs.declared.operation.StackOperation.{StackOperation}
 use Rattle.jvm_meaning.specs.declared.operation.StackOperation.TheVariants as operands
 use Rattle.jvm_state.specs.Stops.{Part, ◌>>=◌, refused}
 use Rattle.jvm_state.specs.Stacks.{Operands, push}
-use Rattle.jvm_meaning.specs.Words.{increment, binary, negate, shift, rotate, to_long, to_int, narrow, compare}
+use Rattle.jvm_meaning.specs.Words.{increment, binary, divide, negate, shift, rotate, to_long, to_int, narrow, compare}
 use Rattle.jvm_meaning.specs.Branches.{branch_in, next_place}
 use Rattle.jvm_state.specs.Arrays.{Arrays, items_of}
-use Rattle.jvm_meaning.specs.ArrayUses.{on_arrays}
+use Rattle.jvm_meaning.specs.ArrayUses.{on_arrays, new_references, new_rows}
 use Rattle.jvm_meaning.specs.Constants.{load_constant}
 use Rattle.jvm_meaning.specs.Fields.{put_static}
 use Rattle.jvm_meaning.specs.Calls.{code_of, desc_of, begin, callee_of, returned, narrowed_by}
-use Rattle.jvm_meaning.specs.Types.{return_type}
+use Rattle.jvm_meaning.specs.Types.{deepest, return_type}
 use Rattle.jvm_meaning.specs.Operations.{instruction_at}
 use Rattle.jvm_meaning.specs.Moves.{move_on}
 use Rattle.jvm_meaning.specs.Steps.{Step, site_of, refused_at, ended, at, call, started, resume}
@@ -48,6 +48,7 @@ use Rattle.jvm_meaning.specs.Steps.{Step, site_of, refused_at, ended, at, call, 
 abbrev pub on_stack : StackOperation → ℕ → Operands ℕ ℕ → Part (Operands ℕ ℕ)
 on_stack (operands.Push v) depth stack = push depth v stack
 on_stack (operands.Binary operation width) depth stack = binary operation width depth stack
+on_stack (operands.Divide division width) depth stack = divide division width depth stack
 on_stack (operands.Negate width) depth stack = negate width depth stack
 on_stack (operands.Shift direction width) depth stack = shift direction width depth stack
 on_stack (operands.Rotate direction width) depth stack = rotate direction width depth stack
@@ -73,6 +74,12 @@ stay class limits code (does.Array operation) size f heap = do
 stay class limits code (does.LoadConstant op width number) size f heap = do
   stack ← load_constant op width number class code.max_stack f.stack
   Ok (at (f.pc + size) f.locals stack f, heap)
+stay class limits code (does.NewReferences number) size f heap = do
+  next ← new_references class number limits.elements code.max_stack heap f.stack
+  Ok (at (f.pc + size) f.locals next.1 f, next.0)
+stay class limits code (does.NewRows number dimensions) size f heap = do
+  next ← new_rows class number dimensions limits.elements code.max_stack heap f.stack
+  Ok (at (f.pc + size) f.locals next.1 f, next.0)
 stay class limits code (does.PutStatic number) size f heap = do
   next ← put_static class number heap f.stack
   Ok (at (f.pc + size) f.locals next.1 f, next.0)
@@ -142,12 +149,12 @@ abbrev pub leave : Contents → ShapeParts → Option (Value ℕ ℕ) → Site �
 leave class shape result site s = leave_to class shape result site s s.callers
 
 abbrev pub give_back : Contents → ShapeParts → State ℕ ℕ ℕ → Part (Option (Value ℕ ℕ)) → Step ℕ ℕ ℕ ℕ
-give_back class shape s (Ok result) = leave class shape (narrowed_by (return_type (desc_of class s.frame.method)) result) (site_of s.frame) s
+give_back class shape s (Ok result) = leave class shape (narrowed_by (return_type deepest (desc_of class s.frame.method)) result) (site_of s.frame) s
 give_back class shape s (Err stop) = Err (refused_at WrongOperand (site_of s.frame))
 
 -- ireturn, lreturn, areturn, return
 abbrev pub give : Contents → ShapeParts → Option Sort → State ℕ ℕ ℕ → Step ℕ ℕ ℕ ℕ
-give class shape sort s = give_back class shape s (returned sort (return_type (desc_of class s.frame.method)) s.heap.arrays s.frame.stack)
+give class shape sort s = give_back class shape s (returned sort (return_type deepest (desc_of class s.frame.method)) s.heap.arrays s.frame.stack)
 
 -- ---- the step
 

@@ -17,13 +17,14 @@ use Rattle.jvm_state.specs.declared.sorts.Width.TheVariants as width
 use Rattle.jvm_state.specs.declared.block.Span.TheVariants.{NoSlot, OneSlot, TwoSlots}
 use Rattle.jvm_meaning.specs.declared.operation.Instruction.{Instruction}
 use Rattle.jvm_meaning.specs.declared.operation.Operation.{Operation}
-use Rattle.jvm_meaning.specs.declared.operation.Operation.TheVariants.{Stack, Move, Increment, Branch, Array, LoadConstant, PutStatic, Invoke, Return}
-use Rattle.jvm_meaning.specs.declared.operation.StackOperation.TheVariants.{Push, Binary, Negate, Shift, ToLong, ToInt, Narrow, Compare}
+use Rattle.jvm_meaning.specs.declared.operation.Operation.TheVariants.{Stack, Move, Increment, Branch, Array, LoadConstant, NewReferences, NewRows, PutStatic, Invoke, Return}
+use Rattle.jvm_meaning.specs.declared.operation.StackOperation.TheVariants.{Push, Binary, Divide, Negate, Shift, ToLong, ToInt, Narrow, Compare}
 use Rattle.jvm_meaning.specs.declared.operation.Move.TheVariants.{Nothing, PushNull, Discard, Duplicate, Swap, Load, Store, GetStatic, Jump, JumpIf}
-use Rattle.jvm_meaning.specs.declared.operation.ArrayOperation.TheVariants.{LoadElement, StoreElement, NewArray, ArrayLength}
+use Rattle.jvm_meaning.specs.declared.operation.ArrayOperation.TheVariants.{LoadElement, StoreElement, LoadReference, StoreReference, NewArray, ArrayLength}
 use Rattle.jvm_meaning.specs.declared.operation.Condition.TheVariants.{IfZero, IfInts}
 use Rattle.jvm_meaning.specs.declared.operation.ReferenceTest.TheVariants.{Same, NotSame, Null, NotNull}
 use Rattle.jvm_meaning.specs.declared.operation.Binary.TheVariants.{Add, Subtract, Multiply, And, Or, Xor}
+use Rattle.jvm_meaning.specs.declared.operation.Division.TheVariants.{Quotient, Remainder}
 use Rattle.jvm_meaning.specs.declared.operation.Shift.TheVariants.{Left, Right, UnsignedRight}
 use Rattle.jvm_meaning.specs.declared.operation.Test.TheVariants.{Equal, NotEqual, Less, NotLess, Greater, NotGreater}
 
@@ -83,6 +84,7 @@ loads op first = row_of op (
     ∷ (45, Move (Load sort.Reference 3))  -- aload_3
     ∷ (46, Array (LoadElement kind.Int))  -- iaload
     ∷ (47, Array (LoadElement kind.Long))  -- laload
+    ∷ (50, Array LoadReference)  -- aaload
     ∷ (51, Array (LoadElement kind.Byte))  -- baload
     ∷ (52, Array (LoadElement kind.Char))  -- caload
     ∷ (53, Array (LoadElement kind.Short))  -- saload
@@ -107,6 +109,7 @@ stores op first = row_of op (
     ∷ (78, Move (Store sort.Reference 3))  -- astore_3
     ∷ (79, Array (StoreElement kind.Int))  -- iastore
     ∷ (80, Array (StoreElement kind.Long))  -- lastore
+    ∷ (83, Array StoreReference)  -- aastore
     ∷ (84, Array (StoreElement kind.Byte))  -- bastore
     ∷ (85, Array (StoreElement kind.Char))  -- castore
     ∷ (86, Array (StoreElement kind.Short))  -- sastore
@@ -133,6 +136,10 @@ arithmetic op first second = row_of op (
     ∷ (101, Stack (Binary Subtract width.Long))  -- lsub
     ∷ (104, Stack (Binary Multiply width.Int))  -- imul
     ∷ (105, Stack (Binary Multiply width.Long))  -- lmul
+    ∷ (108, Stack (Divide Quotient width.Int))  -- idiv
+    ∷ (109, Stack (Divide Quotient width.Long))  -- ldiv
+    ∷ (112, Stack (Divide Remainder width.Int))  -- irem
+    ∷ (113, Stack (Divide Remainder width.Long))  -- lrem
     ∷ (116, Stack (Negate width.Int))  -- ineg
     ∷ (117, Stack (Negate width.Long))  -- lneg
     ∷ (120, Stack (Shift Left width.Int))  -- ishl
@@ -184,8 +191,8 @@ new_arrays first = row_of (number first) (
     (5, Array (NewArray kind.Char)) ∷ (8, Array (NewArray kind.Byte)) ∷ (9, Array (NewArray kind.Short))
     ∷ (10, Array (NewArray kind.Int)) ∷ (11, Array (NewArray kind.Long)) ∷ [])
 
-unfoldable pub calls : ℕ → ℤ → Option Operation
-calls op first = row_of op (
+unfoldable pub calls : ℕ → ℤ → ℤ → Option Operation
+calls op first second = row_of op (
     (172, Return (Some sort.Int))  -- ireturn
     ∷ (173, Return (Some sort.Long))  -- lreturn
     ∷ (176, Return (Some sort.Reference))  -- areturn
@@ -193,7 +200,9 @@ calls op first = row_of op (
     ∷ (178, Move (GetStatic (number first)))  -- getstatic
     ∷ (179, PutStatic (number first))  -- putstatic
     ∷ (184, Invoke (number first))  -- invokestatic
+    ∷ (189, NewReferences (number first))  -- anewarray
     ∷ (190, Array ArrayLength)  -- arraylength
+    ∷ (197, NewRows (number first) (chop 8 (unsigned_abs second)))  -- multianewarray
     ∷ [])
 
 -- what an opcode with these operands does; 188 is newarray
@@ -202,7 +211,7 @@ operation_of op first second =
     if nat_le op 20 then constants op first else if nat_le op 53 then loads op first else if nat_le op 86 then stores op first
     else if nat_le op 95 then moves op else if nat_le op 148 then arithmetic op first second
     else if nat_le op 167 then branches op first else if nat_le 198 op then branches op first
-    else if op == 188 then new_arrays first else calls op first
+    else if op == 188 then new_arrays first else calls op first second
 
 abbrev pub with_operation : ℕ → ℕ → Option Operation → Result Instruction Reason
 with_operation op size None = Err (OutsideProfile op)

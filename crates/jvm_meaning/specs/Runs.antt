@@ -11,6 +11,7 @@ use Rattle.class_file.specs.declared.class.Code.{Code}
 use Rattle.class_file.specs.declared.class.MethodId.{MethodId}
 use Rattle.jvm_meaning.specs.Numbers.{Value, End, Array, Heap, State, Waiting, Step}
 use Rattle.jvm_state.specs.declared.value.Value.TheVariants as value
+use Rattle.jvm_state.specs.declared.arrays.Array.TheVariants.{Words}
 use Rattle.jvm_state.specs.declared.value.End.TheVariants.{MoreSteps}
 use Rattle.jvm_state.specs.declared.state.Limits.{Limits}
 use Rattle.jvm_state.specs.Values.{narrowed}
@@ -43,7 +44,7 @@ abbrev pub chopped : Kind → List ℕ → List ℕ
 chopped kind leaves = map (chop (width_of kind)) leaves
 
 abbrev pub array_of : Kind → List ℕ → Array
-array_of kind leaves = record { kind = kind; elements = chopped kind leaves }
+array_of kind leaves = Words kind (chopped kind leaves)
 
 abbrev pub arrays_of : Option ℕ → Kind → List ℕ → List Array
 arrays_of None kind leaves = []

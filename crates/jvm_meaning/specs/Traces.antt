@@ -1,5 +1,5 @@
 -- Where a run goes: the states after so many steps, and its traces.
-use Rattle.std.specs.Prelude.{◌≡◌, ◌↔◌, ◌<◌, ◌≤◌, ◌+◌, ℕ, zero, suc, if◌then◌else◌, nat_lt, List, [], ◌∷◌, ◌++◌, length, map, take, slice_get, Option, Some, None, Result, Ok, Err}
+use Rattle.std.specs.Prelude.{◌≡◌, ◌↔◌, ◌<◌, ◌≤◌, ◌+◌, ◌*◌, ℕ, zero, suc, if◌then◌else◌, nat_lt, List, [], ◌∷◌, ◌++◌, length, replicate, map, take, slice_get, Option, Some, None, Result, Ok, Err}
 use Rattle.axe_io.specs.Shapes.{ShapeParts}
 use Rattle.class_file.specs.Contents.{Contents}
 use Rattle.class_file.specs.declared.class.Code.{Code}
@@ -12,9 +12,12 @@ use Rattle.jvm_state.specs.declared.state.Site.{Site}
 use Rattle.jvm_meaning.specs.declared.operation.Instruction.{Instruction}
 use Rattle.jvm_meaning.specs.declared.operation.Operation.{Operation}
 use Rattle.jvm_meaning.specs.declared.operation.Operation.TheVariants as does
-use Rattle.jvm_meaning.specs.declared.operation.ArrayOperation.TheVariants.{NewArray}
+use Rattle.jvm_meaning.specs.declared.operation.ArrayOperation.TheVariants.{NewArray, LoadReference, StoreReference}
 use Rattle.jvm_meaning.specs.Numbers.{End, Array, Arrays, Operands, State, Step}
 use Rattle.jvm_meaning.specs.Calls.{code_of}
+use Rattle.jvm_state.specs.Stops.{Part}
+use Rattle.jvm_state.specs.Arrays.{count_in}
+use Rattle.jvm_meaning.specs.ArrayUses.{pop_counts}
 use Rattle.jvm_meaning.specs.Steps.{site_of}
 use Rattle.jvm_meaning.specs.Operations.{instruction_at}
 use Rattle.jvm_meaning.specs.Machine.{step}
@@ -62,14 +65,34 @@ unfoldable pub trace : Contents → MethodId → ShapeParts → List ℕ → ℕ
 trace class method shape leaves steps frames elements =
     trace_from steps class shape (record { frames = frames; elements = elements }) (start class method shape leaves)
 
--- the numbers that an instruction asks for, by its operation and operands: the length of an array that it makes
+abbrev pub asked_int : Operands → List ℕ
+asked_int (Int n ∷ rest) = n ∷ []
+asked_int _ = []
+
+abbrev pub counts_in : Part (List ℕ × Operands) → List ℕ
+counts_in (Ok taken) = taken.0
+counts_in (Err stop) = []
+
+-- the numbers that an instruction asks for, by its operation and operands: the length or the counts of arrays that it
+-- makes, that of the outermost first, and the index of a reference in an array
 abbrev pub asked : Operation → Operands → List ℕ
-asked (does.Array (NewArray kind)) (Int n ∷ rest) = n ∷ []
+asked (does.Array (NewArray kind)) stack = asked_int stack
+asked (does.NewReferences number) stack = asked_int stack
+asked (does.NewRows number dimensions) stack = counts_in (pop_counts dimensions [] stack)
+asked (does.Array LoadReference) stack = asked_int stack
+asked (does.Array StoreReference) (v ∷ stack) = asked_int stack
 asked _ _ = []
+
+-- the lengths of arrays by their counts, from the outermost in
+abbrev pub lengths_by : ℕ → List ℕ → List ℕ
+lengths_by many [] = []
+lengths_by many (count ∷ counts) = replicate many count ++ lengths_by (many * count) counts
 
 -- the lengths of the arrays that an instruction makes, by the numbers that it asked for
 abbrev pub made : Operation → List ℕ → List ℕ
 made (does.Array (NewArray kind)) marks = marks
+made (does.NewReferences number) marks = marks
+made (does.NewRows number dimensions) marks = lengths_by 1 marks
 made _ marks = []
 
 -- what is so of the instruction of a state, nothing where there is none
@@ -163,7 +186,7 @@ SameMarksIsSameDeeds = (class : Contents) (shape : ShapeParts) (limits : Limits)
     → (marked_from n class shape limits one ≡ marked_from n class shape limits other) ↔ DoAlike class shape limits n one other
 
 abbrev pub elements_in : Array → ℕ
-elements_in a = length a.elements
+elements_in a = count_in a
 
 abbrev pub lengths : Arrays → List ℕ
 lengths arrays = map elements_in arrays

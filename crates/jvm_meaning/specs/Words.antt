@@ -1,7 +1,7 @@
 -- Arithmetic on ints and longs (JVM Specification SE 8, section 6.5).
 use Rattle.std.specs.Prelude.{ℕ, ◌+◌, ◌-◌, ◌%◌, ◌==◌, not, if◌then◌else◌, Bool, slice_get, slice_set, Some, ℤ, Ok, bit_and, bit_or, bit_xor}
 use Rattle.std.specs.Int.{w32, cast_unsigned}
-use Rattle.bv_words.specs.Words.{chop, plus, times, neg, sx, slice, shl, shr, slt, rotate_left}
+use Rattle.bv_words.specs.Words.{chop, plus, times, neg, sx, slice, shl, shr, slt, rotate_left, sdiv, srem}
 use Rattle.jvm_meaning.specs.Numbers.{Operands, Locals}
 use Rattle.jvm_state.specs.declared.value.Value.TheVariants.{Int, Long}
 use Rattle.axe_io.specs.declared.parameters.Kind.{Kind}
@@ -10,6 +10,10 @@ use Rattle.jvm_state.specs.declared.sorts.Width.{Width}
 use Rattle.jvm_state.specs.declared.sorts.Width.TheVariants as width
 use Rattle.jvm_meaning.specs.declared.operation.Binary.{Binary}
 use Rattle.jvm_meaning.specs.declared.operation.Binary.TheVariants.{Add, Subtract, Multiply, And, Or, Xor}
+use Rattle.jvm_meaning.specs.declared.operation.Division.{Division}
+use Rattle.jvm_meaning.specs.declared.operation.Division.TheVariants.{Quotient, Remainder}
+use Rattle.jvm_state.specs.declared.value.Throw.TheVariants.{Arithmetic}
+use Rattle.jvm_state.specs.declared.stop.Stop.TheVariants.{Throws}
 use Rattle.jvm_meaning.specs.declared.operation.Shift.{Shift}
 use Rattle.jvm_meaning.specs.declared.operation.Shift.TheVariants.{Left, Right, UnsignedRight}
 use Rattle.jvm_meaning.specs.declared.operation.Turn.{Turn}
@@ -17,7 +21,7 @@ use Rattle.jvm_meaning.specs.declared.operation.Turn.TheVariants as turn
 use Rattle.jvm_meaning.specs.declared.operation.Test.{Test}
 use Rattle.jvm_meaning.specs.declared.operation.Test.TheVariants.{Equal, NotEqual, Less, NotLess, Greater, NotGreater}
 use Rattle.jvm_state.specs.Values.{bits_in, value_of, narrowed}
-use Rattle.jvm_state.specs.Stops.{Part, ◌>>=◌}
+use Rattle.jvm_state.specs.Stops.{Part, ◌>>=◌, check}
 use Rattle.jvm_state.specs.Stacks.{push, pop_word, pop_int}
 use Rattle.jvm_state.specs.Frames.{inside, int_held}
 
@@ -36,6 +40,19 @@ binary operation width depth stack = do
   second ← pop_word width stack
   first ← pop_word width second.1
   push depth (value_of width (binary_word operation (bits_in width) first.0 second.0)) first.1
+
+-- the quotient is cut towards zero, and that of the least number and minus one wraps; the remainder has the sign of x
+abbrev pub divided : Division → ℕ → ℕ → ℕ → ℕ
+divided Quotient bits x y = sdiv bits x y
+divided Remainder bits x y = srem bits x y
+
+-- idiv, ldiv, irem, lrem: a divisor of 0 throws
+abbrev pub divide : Division → Width → ℕ → Operands → Part Operands
+divide division width depth stack = do
+  second ← pop_word width stack
+  first ← pop_word width second.1
+  not_zero ← check (not (second.0 == 0)) (Throws Arithmetic)
+  push depth (value_of width (divided division (bits_in width) first.0 second.0)) first.1
 
 -- ineg, lneg
 abbrev pub negate : Width → ℕ → Operands → Part Operands

@@ -9,9 +9,11 @@ ghost use Rattle.jvm_meaning.specs.Types.{types_seen};
 use crate::constants::{Member, is_own, method_named};
 use crate::fields::pop_typed;
 use crate::operation::Turn;
-use crate::types::{FieldType, MethodType, method_type};
+use crate::types::{DEEPEST, MethodType, method_type};
 use class_file::{ClassFile, Code, MethodId};
-use jvm_state::{Arrays, Frame, Halt, Locals, Reason, Stack, Stop, Value, Width, check, refuse};
+use jvm_state::{
+    Arrays, FieldType, Frame, Halt, Locals, Reason, Stack, Stop, Value, Width, check, refuse,
+};
 use std::alloc::{AllocError, Global};
 
 /// What an invokestatic calls.
@@ -175,7 +177,7 @@ fn pop_arguments<I: Copy, L: Copy, E: Copy>(
 fn types_of(alloc: Global, class: &ClassFile, method: MethodId) -> Result<MethodType, Halt>
     ensures { Gives types_seen result (types_called class.now method) }
 {
-    match method_type(alloc, desc_of(class, method))? {
+    match method_type(alloc, DEEPEST, desc_of(class, method))? {
         Some(types) => Ok(types),
         None => refuse(Reason::OutsideProfile { op: 184 }),
     }

@@ -5,10 +5,10 @@ ghost use Rattle.jvm_meaning.specs.Constants.{member_seen};
 ghost use Rattle.jvm_state.specs.Stops.{Gives};
 
 use crate::constants::{Member, field_named, is_own};
-use crate::types::{FieldType, field_type};
+use crate::types::{DEEPEST, field_type};
 use axe_io::Kind;
 use class_file::{ClassFile, Field};
-use jvm_state::{Arrays, Cells, Halt, Reason, Stack, Value, refuse};
+use jvm_state::{Arrays, Cells, FieldType, Halt, Reason, Stack, Value, refuse};
 
 /// ACC_STATIC, the flag of a static field (JVM Specification SE 8, section 4.5).
 const STATIC: u16 = 0x0008;
@@ -24,9 +24,9 @@ pub fn fits<I: Copy, L: Copy, E: Copy>(
     match field_type {
         FieldType::Scalar(Kind::Long) => matches!(value, Value::Long(_)),
         FieldType::Scalar(_) => matches!(value, Value::Int(_)),
-        FieldType::Array(kind) => match value {
+        FieldType::Array(wanted) => match value {
             Value::Null => true,
-            Value::Array(array) => arrays.has_kind(array, kind),
+            Value::Array(array) => arrays.has_type(array, wanted),
             _ => false,
         },
     }
@@ -69,7 +69,7 @@ fn static_at(field: &Field, at: usize) -> Option<Place>
     if !is_static(field) {
         return None;
     }
-    let field_type = field_type(field.desc.as_slice())?;
+    let field_type = field_type(DEEPEST, field.desc.as_slice())?;
     Some(Place { at, field_type })
 }
 

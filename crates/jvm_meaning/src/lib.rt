@@ -25,11 +25,11 @@ mod steps;
 mod table;
 mod types;
 
-pub use array_use::{element, next_array, pop_array, present};
+pub use array_use::{element, next_array, pop_array, pop_rows, present, reference_value, row};
 pub use beginning::{begins, initialiser_of};
 pub use branches::{Branch, branch_in, jump, taken_if};
 pub use calls::{Callee, begin, callee_in, code_of, desc_of};
-pub use constants::number_in;
+pub use constants::{array_class, number_in};
 pub use ends::{end_of, refused_at, site_of};
 pub use fields::{Place, fits, is_static, pop_static, pop_typed, static_field};
 pub use laws::{
@@ -40,12 +40,12 @@ pub use laws::{
 };
 pub use moving::move_on;
 pub use operation::{
-    ArrayOperation, Binary, Condition, Instruction, Move, Operation, ReferenceTest, Shift,
-    StackOperation, Test, Turn,
+    ArrayOperation, Binary, Condition, Division, Instruction, Move, Operation, ReferenceTest,
+    Shift, StackOperation, Test, Turn,
 };
 pub use returns::returned;
 pub use steps::{call, resume, start};
 pub use table::instruction_at;
 pub use types::{
-    FieldType, Letter, MethodType, field_type, kind_of, letter_of, method_type, return_type,
+    DEEPEST, Letter, MethodType, field_type, kind_of, letter_of, method_type, return_type,
 };

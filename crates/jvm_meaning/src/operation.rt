@@ -16,6 +16,10 @@ pub enum Operation {
     Array(ArrayOperation),
     /// ldc, ldc_w, ldc2_w: pushes a constant of a width; the opcode is named where it is refused.
     LoadConstant(u8, Width, u16),
+    /// anewarray: the constant names the type of the elements.
+    NewReferences(u16),
+    /// multianewarray: the constant names the type, and so many counts are given.
+    NewRows(u16, u8),
     /// putstatic.
     PutStatic(u16),
     /// invokestatic.
@@ -56,6 +60,8 @@ pub enum StackOperation {
     Push(Value),
     /// add, sub, mul, and, or, xor.
     Binary(Binary, Width),
+    /// div, rem.
+    Divide(Division, Width),
     /// neg.
     Negate(Width),
     /// shl, shr, ushr.
@@ -83,6 +89,13 @@ pub enum Binary {
     Xor,
 }
 
+/// What is taken of a division.
+#[derive(Clone, Copy)]
+pub enum Division {
+    Quotient,
+    Remainder,
+}
+
 /// The way of a shift; to the right the sign is kept, or zeros come in.
 #[derive(Clone, Copy)]
 pub enum Shift {
@@ -105,6 +118,10 @@ pub enum ArrayOperation {
     LoadElement(Kind),
     /// bastore, castore, sastore, iastore, lastore.
     StoreElement(Kind),
+    /// aaload.
+    LoadReference,
+    /// aastore.
+    StoreReference,
     /// newarray.
     NewArray(Kind),
     /// arraylength.

@@ -3,9 +3,8 @@ ghost use Rattle.jvm_meaning.specs.Calls.{is_returned_by, result_of, returned, p
 ghost use Rattle.jvm_state.specs.Stops.{Gives};
 
 use crate::fields::pop_typed;
-use crate::types::FieldType;
 use axe_io::Kind;
-use jvm_state::{Arrays, Halt, Reason, Sort, Stack, Value, refuse};
+use jvm_state::{Arrays, FieldType, Halt, Reason, Sort, Stack, Value, refuse};
 
 /// Whether a return gives a result of this type.
 fn is_returned_by(sort: Option<Sort>, found: Option<FieldType>) -> bool

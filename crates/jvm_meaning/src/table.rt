@@ -1,12 +1,13 @@
-ghost use Rattle.std.specs.Prelude.{◌≡◌, ◌≤◌, ◌<◌, ◌+◌, ◌^◌, ℕ, ℤ, Option, Some, length, IfOk};
+ghost use Rattle.std.specs.Prelude.{◌≡◌, ◌≤◌, ◌<◌, ◌+◌, ◌^◌, ℕ, ℤ, Option, Some, length, unsigned_abs, IfOk};
+ghost use Rattle.bv_words.specs.Words.{chop};
 ghost use Rattle.jvm_meaning.specs.Operations.{int, long, number, constants, loads, stores, moves, arithmetic, branches, new_arrays, calls, operation_of, with_operation, reason_of, instruction_at};
 ghost use Rattle.jvm_meaning.specs.declared.operation.Operation.TheVariants as does;
 ghost use Rattle.jvm_meaning.specs.declared.operation.Move.TheVariants as moves;
 ghost use Rattle.jvm_meaning.specs.declared.operation.StackOperation.TheVariants as operands;
 
 use crate::operation::{
-    ArrayOperation, Binary, Condition, Instruction, Move, Operation, ReferenceTest, Shift,
-    StackOperation, Test,
+    ArrayOperation, Binary, Condition, Division, Instruction, Move, Operation, ReferenceTest,
+    Shift, StackOperation, Test,
 };
 use axe_io::Kind;
 use bv_words::chop;
@@ -68,7 +69,7 @@ fn operation_of(op: u8, first: i32, second: i32) -> Option<Operation>
         96..=148 => arithmetic(op, first, second),
         149..=167 | 198..=255 => branches(op, first),
         188 => new_arrays(first),
-        _ => calls(op, first),
+        _ => calls(op, first, second),
     }
 }
 
@@ -77,6 +78,13 @@ fn number(first: i32) -> u16
     ensures { result ≡ number first }
 {
     chop(16, u64::from(first.unsigned_abs())) as u16
+}
+
+/// An operand that is a byte without sign.
+fn byte(second: i32) -> u8
+    ensures { result ≡ chop 8 (unsigned_abs second) }
+{
+    chop(8, u64::from(second.unsigned_abs())) as u8
 }
 
 fn stack(operation: StackOperation) -> Option<Operation>
@@ -131,6 +139,12 @@ fn binary(operation: Binary, width: Width) -> Option<Operation>
     ensures { result ≡ Some (does.Stack (operands.Binary operation width)) }
 {
     stack(StackOperation::Binary(operation, width))
+}
+
+fn divide(division: Division, width: Width) -> Option<Operation>
+    ensures { result ≡ Some (does.Stack (operands.Divide division width)) }
+{
+    stack(StackOperation::Divide(division, width))
 }
 
 fn shift(direction: Shift, width: Width) -> Option<Operation>
@@ -194,6 +208,7 @@ fn loads(op: u8, first: i32) -> Option<Operation>
         45 => load(Sort::Reference, 3), // aload_3
         46 => array(ArrayOperation::LoadElement(Kind::Int)), // iaload
         47 => array(ArrayOperation::LoadElement(Kind::Long)), // laload
+        50 => array(ArrayOperation::LoadReference), // aaload
         51 => array(ArrayOperation::LoadElement(Kind::Byte)), // baload
         52 => array(ArrayOperation::LoadElement(Kind::Char)), // caload
         53 => array(ArrayOperation::LoadElement(Kind::Short)), // saload
@@ -224,6 +239,7 @@ fn stores(op: u8, first: i32) -> Option<Operation>
         78 => store(Sort::Reference, 3), // astore_3
         79 => array(ArrayOperation::StoreElement(Kind::Int)), // iastore
         80 => array(ArrayOperation::StoreElement(Kind::Long)), // lastore
+        83 => array(ArrayOperation::StoreReference), // aastore
         84 => array(ArrayOperation::StoreElement(Kind::Byte)), // bastore
         85 => array(ArrayOperation::StoreElement(Kind::Char)), // castore
         86 => array(ArrayOperation::StoreElement(Kind::Short)), // sastore
@@ -262,6 +278,10 @@ fn arithmetic(op: u8, first: i32, second: i32) -> Option<Operation>
         101 => binary(Binary::Subtract, Width::Long), // lsub
         104 => binary(Binary::Multiply, Width::Int), // imul
         105 => binary(Binary::Multiply, Width::Long), // lmul
+        108 => divide(Division::Quotient, Width::Int), // idiv
+        109 => divide(Division::Quotient, Width::Long), // ldiv
+        112 => divide(Division::Remainder, Width::Int), // irem
+        113 => divide(Division::Remainder, Width::Long), // lrem
         116 => stack(StackOperation::Negate(Width::Int)), // ineg
         117 => stack(StackOperation::Negate(Width::Long)), // lneg
         120 => shift(Shift::Left, Width::Int), // ishl
@@ -332,8 +352,8 @@ fn new_arrays(first: i32) -> Option<Operation>
 
 /// Returns, fields, invokestatic and arraylength.
 #[tactic(auto, unfolding(crate::specs::Operations::calls))]
-fn calls(op: u8, first: i32) -> Option<Operation>
-    ensures { result ≡ calls op first }
+fn calls(op: u8, first: i32, second: i32) -> Option<Operation>
+    ensures { result ≡ calls op first second }
 {
     match op {
         172 => Some(Operation::Return(Some(Sort::Int))), // ireturn
@@ -343,7 +363,9 @@ fn calls(op: u8, first: i32) -> Option<Operation>
         178 => moving(Move::GetStatic(number(first))), // getstatic
         179 => Some(Operation::PutStatic(number(first))), // putstatic
         184 => Some(Operation::Invoke(number(first))), // invokestatic
+        189 => Some(Operation::NewReferences(number(first))), // anewarray
         190 => array(ArrayOperation::ArrayLength), // arraylength
+        197 => Some(Operation::NewRows(number(first), byte(second))), // multianewarray
         _ => None,
     }
 }

@@ -16,7 +16,7 @@ fn inst(op: u8, wide: bool, first: i32, second: i32, size: u32) -> Result<Inst, 
 #[test]
 fn instructions_and_refusals(rt: HostRuntime) {
     let cut = Err(CodeError::Cut { pc: 0 });
-    let rows: [(&[u8], u32, Result<Inst, CodeError>); 24] = [
+    let rows: [(&[u8], u32, Result<Inst, CodeError>); 27] = [
         (b"\x00", 0, inst(0, false, 0, 0, 1)),
         (b"\x00\xb1", 1, inst(177, false, 0, 0, 1)),
         (b"\x10\x80", 0, inst(16, false, -128, 0, 2)),
@@ -33,6 +33,8 @@ fn instructions_and_refusals(rt: HostRuntime) {
         ),
         (b"\xbc\x0a", 0, inst(188, false, 10, 0, 2)),
         (b"\xb8\x80\x01", 0, inst(184, false, 32769, 0, 3)),
+        (b"\xbd\x01\x02", 0, inst(189, false, 258, 0, 3)),
+        (b"\xc5\x80\x01\xff", 0, inst(197, false, 32769, 255, 4)),
         (b"\xc4\x15\x80\x00", 0, inst(21, true, 32768, 0, 4)),
         (b"\xc4\x84\x01\x00\xff\xff", 0, inst(132, true, 256, -1, 6)),
         (b"", 0, Err(CodeError::OutOfCode { pc: 0 })),
@@ -57,6 +59,7 @@ fn instructions_and_refusals(rt: HostRuntime) {
         (b"\xc4\x84\x00\x01\x02", 0, cut),
         (b"\x10", 0, cut),
         (b"\xc8\x00\x00\x00", 0, cut),
+        (b"\xc5\x00\x01", 0, cut),
     ];
     for (code, pc, want) in rows {
         assert_eq!(rt; decode(code, pc), want);
@@ -75,5 +78,5 @@ fn rows_of_opcodes(rt: HostRuntime) {
             rows = rows.wrapping_add(1);
         }
     }
-    assert_eq!(rt; rows, 120);
+    assert_eq!(rt; rows, 128);
 }

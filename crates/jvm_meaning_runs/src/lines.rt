@@ -110,6 +110,7 @@ fn thrown(kind: Throw) -> &'static [u8] {
         Throw::NullPointer => b"java.lang.NullPointerException\n",
         Throw::ArrayIndex => b"java.lang.ArrayIndexOutOfBoundsException\n",
         Throw::NegativeSize => b"java.lang.NegativeArraySizeException\n",
+        Throw::Arithmetic => b"java.lang.ArithmeticException\n",
     }
 }
 

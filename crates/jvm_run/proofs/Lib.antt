@@ -1,2 +1,4 @@
 mod RunLemmas
 mod ShapeLemmas
+mod RowLemmas
+mod ArgumentLemmas

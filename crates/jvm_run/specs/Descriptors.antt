@@ -10,8 +10,8 @@ use Rattle.class_file.specs.Contents.{Contents}
 use Rattle.class_file.specs.declared.class.MethodId.{MethodId}
 use Rattle.jvm_run.specs.declared.descriptor.ShapeError.{ShapeError}
 use Rattle.jvm_run.specs.declared.descriptor.ShapeError.TheVariants.{BadType, Sizes, Out, Memory}
-use Rattle.jvm_meaning.specs.declared.types.FieldType.{FieldType}
-use Rattle.jvm_meaning.specs.declared.types.FieldType.TheVariants.{Scalar, Array}
+use Rattle.jvm_state.specs.declared.types.FieldType.{FieldType}
+use Rattle.jvm_state.specs.declared.types.FieldType.TheVariants.{Scalar, Array}
 use Rattle.jvm_meaning.specs.declared.types.Letter.{Letter}
 use Rattle.jvm_meaning.specs.declared.types.Letter.TheVariants.{Closes, Opens, Names, Unknown}
 use Rattle.jvm_meaning.specs.Types.{Types, kind_of, letter_of, method_type}
@@ -60,15 +60,15 @@ letters_by (Names type) result opened rest = suc rest
 letters_by Unknown result opened rest = 0
 
 -- those of the longest beginning that also begins parameters and a result
-abbrev pub types_letters : Bool → List ℕ → ℕ
-types_letters is_array [] = 0
-types_letters is_array (letter ∷ letters) =
-    letters_by (letter_of is_array letter) (result_letters letters) (types_letters true letters) (types_letters false letters)
+abbrev pub types_letters : ℕ → List ℕ → ℕ
+types_letters depth [] = 0
+types_letters depth (letter ∷ letters) =
+    letters_by (letter_of 1 depth letter) (result_letters letters) (types_letters (suc depth) letters) (types_letters 0 letters)
 
 -- those of the longest beginning that also begins a descriptor of the profile
 abbrev pub descriptor_letters : List ℕ → ℕ
 descriptor_letters [] = 0
-descriptor_letters (letter ∷ letters) = if letter == 40 then suc (types_letters false letters) else 0
+descriptor_letters (letter ∷ letters) = if letter == 40 then suc (types_letters 0 letters) else 0
 
 -- ---- sizes
 
@@ -78,7 +78,7 @@ total (n ∷ ns) = n + total ns
 
 abbrev pub is_array : FieldType → Bool
 is_array (Scalar kind) = false
-is_array (Array kind) = true
+is_array (Array type) = true
 
 -- a size for each array
 abbrev pub sizes_fit : List FieldType → ℕ → Shaped (Unit {0})
@@ -90,11 +90,11 @@ param kind len = record { kind = kind; len = len }
 -- a parameter of a type, an array with the first of the sizes, and the sizes behind it
 abbrev pub param_of : FieldType → List ℕ → Param
 param_of (Scalar kind) sizes = param kind None
-param_of (Array kind) sizes = param kind (Some (slice_index sizes 0))
+param_of (Array type) sizes = param type.kind (Some (slice_index sizes 0))
 
 abbrev pub sizes_behind : FieldType → List ℕ → List ℕ
 sizes_behind (Scalar kind) sizes = sizes
-sizes_behind (Array kind) sizes = drop 1 sizes
+sizes_behind (Array type) sizes = drop 1 sizes
 
 -- the parameters with their sizes, each array with the next one
 abbrev pub params_of : List FieldType → List ℕ → List Param
@@ -105,14 +105,14 @@ params_of (type ∷ types) sizes = param_of type sizes ∷ params_of types (size
 
 abbrev pub observed_type : FieldType → Kind × Bool
 observed_type (Scalar kind) = (kind, false)
-observed_type (Array kind) = (kind, true)
+observed_type (Array type) = (type.kind, true)
 
 abbrev pub returned_type : Option FieldType → Shaped (Kind × Bool)
 returned_type None = Err Out
 returned_type (Some type) = Ok (observed_type type)
 
 abbrev pub parameter_type : Option FieldType → Shaped (Kind × Bool)
-parameter_type (Some (Array kind)) = Ok (kind, true)
+parameter_type (Some (Array type)) = Ok (type.kind, true)
 parameter_type _ = Err Out
 
 -- what the method returns, which has to be something, or a parameter, which has to be an array
@@ -135,7 +135,7 @@ shape_with types sizes place seen = record { params = params_of types sizes; out
 
 abbrev pub shape_by : List ℕ → List ℕ → OutPlace → Shaped ShapeParts
 shape_by letters sizes place = do
-  types ← spelled letters (method_type letters)
+  types ← spelled letters (method_type 1 letters)
   fit ← sizes_fit types.0 (length sizes)
   seen ← out_type types place
   Ok (shape_with types.0 sizes place seen)

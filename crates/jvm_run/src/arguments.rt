@@ -1,10 +1,11 @@
-ghost use Rattle.std.specs.Prelude.{◌≡◌, ◌≤◌, ◌++◌, length, take, drop, slice_index, IfOk, OnOk};
+ghost use Rattle.std.specs.Prelude.{◌≡◌, ◌≤◌, ◌<◌, ◌^◌, ◌++◌, length, take, drop, slice_index, IfOk, OnOk};
+ghost use Rattle.axe_io.specs.Shapes.{leaf_count, leaf_widths};
 ghost use Rattle.jvm_meaning.specs.Runs.{argument, argument_in, arguments, chopped, arrays_of, arrays_behind, parameter_arrays};
 
 use crate::arithmetic::narrowed;
 use axe_io::{Kind, Param};
 use bv_words::chop;
-use jvm_state::{Arrays, Cells, Value};
+use jvm_state::{Array, Arrays, Cells, Value};
 use std::alloc::{AllocError, Global};
 
 /// The argument that a scalar's leaf stands for.
@@ -74,8 +75,10 @@ fn arrays_behind(len: Option<u32>, arrays: u32) -> Result<u32, AllocError>
 }
 
 /// Leaves as elements of a kind.
+#[tactic(auto, using(crate::proofs::ArgumentLemmas::chopped_count))]
 fn chopped(alloc: Global, kind: Kind, leaves: &[u64]) -> Result<Cells<u64>, AllocError>
-    ensures { IfOk result (λ elements. elements ≡ chopped kind leaves.now) }
+    ensures elements { IfOk result (λ elements. elements ≡ chopped kind leaves.now) }
+    ensures count { IfOk result (λ elements. length elements ≡ length leaves.now) }
 {
     let mut elements = Cells::new(alloc);
     for leaf in leaves {
@@ -91,13 +94,14 @@ fn add_array(
     leaves: &[u64],
     arrays: &mut Arrays,
 ) -> Result<(), AllocError>
+    requires { leaf_count param < 2 ^ 31 }
     ensures { OnOk result (arrays.new ≡ arrays.old ++ arrays_of param.len param.kind leaves.now) }
 {
     let Some(count) = param.len else {
         return Ok(());
     };
     let elements = chopped(alloc, param.kind, split(count as usize, leaves).0)?;
-    arrays.push(param.kind, elements)
+    arrays.push(Array::Words(param.kind, elements))
 }
 
 /// Makes the arrays those of the parameters.
@@ -107,6 +111,7 @@ pub fn parameter_arrays(
     leaves: &[u64],
     arrays: &mut Arrays,
 ) -> Result<(), AllocError>
+    requires { length (leaf_widths params.now) < 2 ^ 31 }
     ensures { OnOk result (arrays.new ≡ parameter_arrays params.now leaves.now) }
 {
     arrays.clear();

@@ -1,14 +1,14 @@
 ghost use Rattle.std.specs.Prelude.{◌≡◌, ℕ, ◌≤◌, ◌<◌, ◌^◌, ◌%◌, ◌⊎◌, IfOk};
 ghost use Rattle.bv_words.specs.Words.{chop as chop_of, sx as sx_of, slt as slt_of};
 ghost use Rattle.jvm_state.specs.Values.{bits_in, value_of, narrowed};
-ghost use Rattle.jvm_meaning.specs.Words.{binary_word, binary, negate, shifted, shift, turned, rotate, to_long, to_int, narrow, order_of, compare, holds};
+ghost use Rattle.jvm_meaning.specs.Words.{binary_word, binary, divided, divide, negate, shifted, shift, turned, rotate, to_long, to_int, narrow, order_of, compare, holds};
 ghost use Rattle.jvm_state.specs.Stacks.{pop_word};
 ghost use Rattle.jvm_state.specs.Stops.{Gives};
 
 use axe_io::Kind;
-use bv_words::{chop, neg, plus, rotate_left, shl, shr, slice, slt, sx, times};
-use jvm_meaning::{Binary, Shift, Test, Turn};
-use jvm_state::{Halt, Reason, Stack, Value, Width, refuse};
+use bv_words::{chop, neg, plus, rotate_left, sdiv, shl, shr, slice, slt, srem, sx, times};
+use jvm_meaning::{Binary, Division, Shift, Test, Turn};
+use jvm_state::{Halt, Reason, Stack, Stop, Throw, Value, Width, check, refuse};
 
 /// Takes the word at the top, which has to be of a width.
 pub fn pop_word(width: Width, stack: &mut Stack) -> Result<u64, Halt>
@@ -58,6 +58,30 @@ fn binary_word(operation: Binary, bits: u32, x: u64, y: u64) -> u64
         Binary::Or => bv_words::or(bits, x, y),
         Binary::Xor => bv_words::xor(bits, x, y),
     }
+}
+
+fn divided(division: Division, bits: u32, x: u64, y: u64) -> u64
+    requires bits { (bits ≡ 32) ⊎ (bits ≡ 64) }
+    requires x { x < 2 ^ bits }
+    requires y { y < 2 ^ bits }
+    ensures value { result ≡ divided division bits x y }
+    ensures word { result < 2 ^ bits }
+{
+    match division {
+        Division::Quotient => sdiv(bits, x, y),
+        Division::Remainder => srem(bits, x, y),
+    }
+}
+
+/// idiv, ldiv, irem, lrem: a divisor of 0 throws.
+pub fn divide(division: Division, width: Width, depth: u16, stack: &mut Stack) -> Result<(), Halt>
+    ensures { Gives (λ _. stack.new) result (divide division width depth stack.old) }
+{
+    let second = pop_word(width, stack)?;
+    let first = pop_word(width, stack)?;
+    check(second != 0, Stop::Throws(Throw::Arithmetic))?;
+    let word = divided(division, width.bits(), first, second);
+    stack.push(value_of(width, word), depth)
 }
 
 /// ineg, lneg.

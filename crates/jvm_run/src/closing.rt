@@ -6,7 +6,7 @@ use crate::observed::observed;
 use crate::statics::narrowed_by;
 use axe_io::Shape;
 use class_file::ClassFile;
-use jvm_meaning::{desc_of, refused_at, resume, return_type, returned, site_of, start};
+use jvm_meaning::{DEEPEST, desc_of, refused_at, resume, return_type, returned, site_of, start};
 use jvm_state::{End, Halt, Reason, Site, Sort, State, Value};
 use std::alloc::{AllocError, Global};
 
@@ -57,7 +57,7 @@ pub fn give(
     ensures { IfOk result (TakesStep (give class.now shape.now sort state.old) state.new) }
 {
     let site = site_of(&state.frame);
-    let found = return_type(desc_of(class, site.method));
+    let found = return_type(DEEPEST, desc_of(class, site.method));
     let arrays = &state.heap.arrays;
     match returned(sort, found, arrays, &mut state.frame.stack) {
         Ok(value) => {

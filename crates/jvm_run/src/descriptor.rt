@@ -6,7 +6,8 @@ ghost use Rattle.jvm_run.specs.Descriptors.{GivesPart, GivesShape, one_if, kind_
 use crate::arguments::split;
 use axe_io::{Kind, OutPlace, Param, Shape};
 use class_file::{ClassFile, MethodId};
-use jvm_meaning::{FieldType, Letter, MethodType, desc_of, kind_of, letter_of, method_type};
+use jvm_meaning::{Letter, MethodType, desc_of, kind_of, letter_of, method_type};
+use jvm_state::FieldType;
 use std::alloc::{AllocError, AllocFailed, Global};
 
 /// Why a method has no shape.
@@ -45,6 +46,9 @@ impl<T: Drop> From<AllocFailed<T>> for ShapeError {
         ShapeError::Memory
     }
 }
+
+/// How many brackets a parameter or result of a job's method may have.
+const JOB_DEPTH: u8 = 1;
 
 /// How many letters of a descriptor are read, which is as many as one may have.
 const MOST_LETTERS: usize = 65_535;
@@ -98,10 +102,10 @@ fn read_letters(desc: &[u8]) -> &[u8]
 #[tactic(auto, using(crate::proofs::ShapeLemmas::few_types))]
 fn spelled(alloc: Global, letters: &[u8]) -> Result<MethodType, ShapeError>
     requires { length letters.now ≤ 65535 }
-    ensures types { GivesPart types_seen result (spelled letters.now (method_type letters.now)) }
+    ensures types { GivesPart types_seen result (spelled letters.now (method_type 1 letters.now)) }
     ensures few { IfOk result (λ t. length t.params.items ≤ 65535) }
 {
-    match method_type(alloc, letters)? {
+    match method_type(alloc, JOB_DEPTH, letters)? {
         Some(types) => Ok(types),
         None => Err(ShapeError::BadType {
             at: descriptor_letters(letters),
@@ -150,7 +154,7 @@ fn returned_type(field_type: Option<FieldType>) -> Result<(Kind, bool), ShapeErr
 {
     match field_type {
         Some(FieldType::Scalar(kind)) => Ok((kind, false)),
-        Some(FieldType::Array(kind)) => Ok((kind, true)),
+        Some(FieldType::Array(found)) => Ok((found.kind, true)),
         None => Err(ShapeError::Out),
     }
 }
@@ -159,7 +163,7 @@ fn parameter_type(field_type: Option<FieldType>) -> Result<(Kind, bool), ShapeEr
     ensures { GivesPart (λ x. x) result (parameter_type field_type) }
 {
     match field_type {
-        Some(FieldType::Array(kind)) => Ok((kind, true)),
+        Some(FieldType::Array(found)) => Ok((found.kind, true)),
         _ => Err(ShapeError::Out),
     }
 }
@@ -183,8 +187,8 @@ fn param_of(field_type: FieldType, sizes: &[u32]) -> Param
 {
     match field_type {
         FieldType::Scalar(kind) => Param { kind, len: None },
-        FieldType::Array(kind) => Param {
-            kind,
+        FieldType::Array(found) => Param {
+            kind: found.kind,
             len: Some(first_size(sizes)),
         },
     }
@@ -243,17 +247,17 @@ fn result_letters(letters: &[u8]) -> u32
 /// How many letters begin parameters and a result.
 fn types_letters(letters: &[u8]) -> u32
     requires { length letters.now ≤ 65535 }
-    ensures letters { result ≡ types_letters false letters.now }
+    ensures letters { result ≡ types_letters 0 letters.now }
     ensures few { result ≤ 65537 }
 {
-    let mut is_array = false;
+    let mut depth = 0u8;
     let mut rest = letters;
     let mut count = 0;
     while let Some((first, after)) = rest.split_first() {
-        match letter_of(is_array, *first) {
+        match letter_of(JOB_DEPTH, depth, *first) {
             Letter::Closes => return count + 1 + result_letters(after),
-            Letter::Opens => is_array = true,
-            Letter::Names(_) => is_array = false,
+            Letter::Opens => depth += 1,
+            Letter::Names(_) => depth = 0,
             Letter::Unknown => return count,
         }
         count += 1;

@@ -81,6 +81,8 @@ fn begin_heap(
 ) -> Result<(), AllocError>
     ensures { OnOk result (heap.new ≡ start_heap class.now shape.now leaves.now) }
 {
+    // the leaves are fewer than 2^31, and so each array is shorter
+    let _leaves = shape.leaves();
     parameter_arrays(alloc, shape.params(), leaves, &mut heap.arrays)?;
     start_values(class, &mut heap.statics)?;
     heap.made = 0;

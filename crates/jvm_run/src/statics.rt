@@ -7,8 +7,8 @@ ghost use Rattle.jvm_state.specs.Stops.{Gives};
 use crate::arithmetic::narrowed;
 use axe_io::Kind;
 use class_file::{ClassFile, Constant, Field};
-use jvm_meaning::{FieldType, field_type, is_static, pop_static};
-use jvm_state::{Cells, Halt, Heap, Stack, Value};
+use jvm_meaning::{DEEPEST, field_type, is_static, pop_static};
+use jvm_state::{Cells, FieldType, Halt, Heap, Stack, Value};
 use std::alloc::AllocError;
 
 /// A value of a type as it is stored or returned: bytes, chars and shorts are narrowed, and extended again.
@@ -69,7 +69,7 @@ fn start_value(class: &ClassFile, field: &Field) -> Value
     if !is_static(field) {
         return Value::Null;
     }
-    match (field_type(field.desc.as_slice()), field.value) {
+    match (field_type(DEEPEST, field.desc.as_slice()), field.value) {
         (None, _) => Value::Null,
         (Some(field_type), None) => default_value(field_type),
         (Some(field_type), Some(number)) => constant_value(field_type, class.constant(number)),

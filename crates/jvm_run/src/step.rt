@@ -3,12 +3,13 @@ ghost use Rattle.jvm_meaning.specs.Steps.{ended, TakesStep};
 ghost use Rattle.jvm_meaning.specs.Machine.{on_stack, stay, stayed, invoke, act, step};
 ghost use Rattle.jvm_state.specs.Stops.{Gives};
 
-use crate::arithmetic::{binary, compare, narrow, negate, rotate, shift, to_int, to_long};
-use crate::array_words::on_arrays;
+use crate::arithmetic::{binary, compare, divide, narrow, negate, rotate, shift, to_int, to_long};
+use crate::array_words::{new_references, on_arrays};
 use crate::closing::give;
 use crate::conditions::next_place;
 use crate::increments::increment;
 use crate::loading::load_constant;
+use crate::rows::new_rows;
 use crate::statics::put_static;
 use axe_io::Shape;
 use class_file::{ClassFile, Code};
@@ -26,6 +27,7 @@ fn on_stack(operation: StackOperation, depth: u16, stack: &mut Stack) -> Result<
     match operation {
         StackOperation::Push(value) => stack.push(value, depth),
         StackOperation::Binary(operation, width) => binary(operation, width, depth, stack),
+        StackOperation::Divide(division, width) => divide(division, width, depth, stack),
         StackOperation::Negate(width) => negate(width, depth, stack),
         StackOperation::Shift(direction, width) => shift(direction, width, depth, stack),
         StackOperation::Rotate(direction, width) => rotate(direction, width, depth, stack),
@@ -68,6 +70,23 @@ fn stay(
         }
         Operation::LoadConstant(op, width, number) => {
             load_constant(op, width, number, class, depth, &mut frame.stack)?;
+        }
+        Operation::NewReferences(number) => {
+            let limit = limits.elements;
+            new_references(alloc, class, number, limit, depth, heap, &mut frame.stack)?;
+        }
+        Operation::NewRows(number, dimensions) => {
+            let limit = limits.elements;
+            new_rows(
+                alloc,
+                class,
+                number,
+                dimensions,
+                limit,
+                depth,
+                heap,
+                &mut frame.stack,
+            )?;
         }
         Operation::PutStatic(number) => put_static(class, number, heap, &mut frame.stack)?,
         Operation::Branch(condition, offset) => {

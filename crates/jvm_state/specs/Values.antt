@@ -1,5 +1,5 @@
 -- Values of local variables and operands (JVM Specification SE 8, sections 2.3, 2.4 and 2.6).
-use Rattle.std.specs.Prelude.{ℕ, ◌+◌, Bool, true, false, List, [], ◌∷◌}
+use Rattle.std.specs.Prelude.{ℕ, ◌+◌, Bool, true, false, List, [], ◌∷◌, Option, option_map}
 use Rattle.axe_io.specs.declared.parameters.Kind.{Kind}
 use Rattle.axe_io.specs.declared.parameters.Kind.TheVariants as kind
 use Rattle.bv_words.specs.Words.{chop, sx}
@@ -29,6 +29,16 @@ is_of sort.Long (Long n) = true
 is_of sort.Reference Null = true
 is_of sort.Reference (Array k) = true
 is_of _ _ = false
+
+-- what a value is told apart by: int, long, or reference; nothing of a local variable that holds nothing
+abbrev pub sort_of : {I L : Type 0} → Value I L → Sort
+sort_of (Int n) = sort.Int
+sort_of (Long n) = sort.Long
+sort_of Null = sort.Reference
+sort_of (Array k) = sort.Reference
+
+abbrev pub sort_held : {I L : Type 0} → Option (Value I L) → Option Sort
+sort_held held = option_map sort_of held
 
 -- the bits of an int and of a long
 abbrev pub bits_in : Width → ℕ

@@ -3,7 +3,7 @@
 //! All of it is generic in what stands for ints (`I`), longs (`L`) and elements (`E`): in a run numbers do, and they
 //! are the defaults; a symbolic state has nodes of a graph in their place and runs the same code.
 //!
-//! `value` has values and the ends of a run, `sorts` what values are told apart by, `stop` why an instruction doesn't
+//! `value` has values and the ends of a run, `sorts` and `types` what values are told apart by, `stop` why an instruction doesn't
 //! go on, `stack`, `cells`, `variables`, `frame`, `callers`, `arrays`, `heap` and `state` what a state holds, and
 //! `block` and `stack_moves` the instructions from pop to swap.
 //!
@@ -21,6 +21,7 @@ mod stack;
 mod stack_moves;
 mod state;
 mod stop;
+mod types;
 mod value;
 mod variables;
 
@@ -35,5 +36,6 @@ pub use stack::Stack;
 pub use stack_moves::{discard, duplicate, swap};
 pub use state::{Limits, Site, State, Waiting};
 pub use stop::{Halt, Stop, check, refuse};
+pub use types::{ArrayType, FieldType, is_same_kind};
 pub use value::{End, Reason, Seen, Throw, Value};
 pub use variables::{Locals, inside, int_held, load, store};

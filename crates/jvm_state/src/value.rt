@@ -1,6 +1,7 @@
 ghost use Rattle.std.specs.Prelude.{◌≡◌, ◌≤◌};
-ghost use Rattle.jvm_state.specs.Values.{slots_of};
+ghost use Rattle.jvm_state.specs.Values.{slots_of, sort_of};
 
+use crate::sorts::Sort;
 use class_file::MethodId;
 use sqlite_items::Items;
 
@@ -19,6 +20,17 @@ pub enum Value<I = u32, L = u64> {
 }
 
 impl<I: Copy, L: Copy> Value<I, L> {
+    /// Whether it is an int, a long, or a reference.
+    pub fn sort(self) -> Sort
+        ensures { result ≡ sort_of self }
+    {
+        match self {
+            Value::Int(_) => Sort::Int,
+            Value::Long(_) => Sort::Long,
+            Value::Null | Value::Array(_) => Sort::Reference,
+        }
+    }
+
     /// How many slots it takes on an operand stack.
     pub fn slots(self) -> u32
         ensures value { result ≡ slots_of self }
@@ -40,6 +52,8 @@ pub enum Throw {
     ArrayIndex,
     /// A negative length.
     NegativeSize,
+    /// A divisor of 0.
+    Arithmetic,
 }
 
 /// Why a run is refused.

@@ -65,6 +65,7 @@ abbrev pub throw_name : Throw → List ℕ
 throw_name throw.NullPointer = codes "java.lang.NullPointerException"
 throw_name throw.ArrayIndex = codes "java.lang.ArrayIndexOutOfBoundsException"
 throw_name throw.NegativeSize = codes "java.lang.NegativeArraySizeException"
+throw_name throw.Arithmetic = codes "java.lang.ArithmeticException"
 
 abbrev pub methods_of : Option Contents → List Method
 methods_of None = []

@@ -19,6 +19,7 @@ pub fn throw_name(kind: Throw) -> &'static str
         Throw::NullPointer => "java.lang.NullPointerException",
         Throw::ArrayIndex => "java.lang.ArrayIndexOutOfBoundsException",
         Throw::NegativeSize => "java.lang.NegativeArraySizeException",
+        Throw::Arithmetic => "java.lang.ArithmeticException",
     }
 }
 

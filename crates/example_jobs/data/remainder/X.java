@@ -1,8 +1,5 @@
 class X {
     static int f(byte x) {
-        if (x == 7) {
-            return x % 3;
-        }
-        return x;
+        return x % 3;
     }
 }

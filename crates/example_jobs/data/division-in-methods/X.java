@@ -1,0 +1,5 @@
+class X {
+    static int f(byte a, byte b) {
+        return a / b;
+    }
+}

@@ -1,0 +1,1 @@
+(defun f (x) (bvsx 32 8 x))

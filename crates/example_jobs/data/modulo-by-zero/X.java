@@ -1,0 +1,5 @@
+class X {
+    static int f(byte x) {
+        return x & 255;
+    }
+}

@@ -1,0 +1,1 @@
+(defun f (x) (bvmod 8 x 0))

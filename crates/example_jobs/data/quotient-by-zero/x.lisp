@@ -1,0 +1,1 @@
+(defun f (x) (bvdiv 8 x 0))

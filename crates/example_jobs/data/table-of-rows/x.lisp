@@ -1,0 +1,1 @@
+(defun f (x) (bvxor 8 x 99))
