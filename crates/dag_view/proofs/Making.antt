@@ -42,10 +42,10 @@ ready g table e a b leaves ids ws is t under measured low = record {
 }
 
 -- a place of the view is one of the list
-there : (g : Graph) (table : List ℕ) (e : Expanded) (v : ViewParts) (k : ℕ) (m : Node) → IsMade g table e v → slice_get v.nodes k ≡ Some m → slice_get v.ids k ≡ Some (slice_index v.ids k)
+pub there : (g : Graph) (table : List ℕ) (e : Expanded) (v : ViewParts) (k : ℕ) (m : Node) → IsMade g table e v → slice_get v.nodes k ≡ Some m → slice_get v.ids k ≡ Some (slice_index v.ids k)
 there g table e v k m h at = slice_get-get_or v.ids k 0 (omega (arith, slice_get_within v.nodes k m at, h.size))
 
-width_at : (g : Graph) (table : List ℕ) (e : Expanded) (v : ViewParts) (k : ℕ) (m : Node) → IsMade g table e v → slice_get v.nodes k ≡ Some m → slice_get g.widths (slice_index v.ids k) ≡ Some (slice_index v.widths k)
+pub width_at : (g : Graph) (table : List ℕ) (e : Expanded) (v : ViewParts) (k : ℕ) (m : Node) → IsMade g table e v → slice_get v.nodes k ≡ Some m → slice_get g.widths (slice_index v.ids k) ≡ Some (slice_index v.widths k)
 width_at g table e v k m h at = h.measured.each k (slice_index v.ids k) (there g table e v k m h at)
 
 -- the definition of an expanded node
@@ -56,12 +56,12 @@ arity_of : (g : Graph) (table ids : List ℕ) (id : ℕ) (m : Node) (p : IsPlace
 arity_of g table ids id m p = ap arity p.is ∙ replaced_arity p.node (p.first ∷ p.second ∷ p.third ∷ [])
 
 -- a child of an expanded node
-record IsPlacedChild (g : Graph) (table : List ℕ) (v : ViewParts) (k : ℕ) (m : Node) (c i : ℕ) : Type 0 where
-  retained : (r : ℕ) × (slice_get table c ≡ Some r) × (slice_get v.ids (nth_child m i) ≡ Some r)
-  before : nth_child m i < k
-  width : slice_get (take k v.widths) (nth_child m i) ≡ slice_get g.widths c
+pub record IsPlacedChild (g : Graph) (table : List ℕ) (v : ViewParts) (k : ℕ) (m : Node) (c i : ℕ) : Type 0 where
+  pub retained : (r : ℕ) × (slice_get table c ≡ Some r) × (slice_get v.ids (nth_child m i) ≡ Some r)
+  pub before : nth_child m i < k
+  pub width : slice_get (take k v.widths) (nth_child m i) ≡ slice_get g.widths c
 
-placed_child : (g : Graph) (table : List ℕ) (e : Expanded) (v : ViewParts) (k : ℕ) (m : Node) (i : ℕ) → IsMade g table e v → slice_get v.nodes k ≡ Some m → (p : IsPlacedWhole g table v.ids (slice_index v.ids k) m) → i < arity p.node → IsPlacedChild g table v k m (nth_child p.node i) i
+pub placed_child : (g : Graph) (table : List ℕ) (e : Expanded) (v : ViewParts) (k : ℕ) (m : Node) (i : ℕ) → IsMade g table e v → slice_get v.nodes k ≡ Some m → (p : IsPlacedWhole g table v.ids (slice_index v.ids k) m) → i < arity p.node → IsPlacedChild g table v k m (nth_child p.node i) i
 placed_child g table e v k m i h at p lt =
     let c : ℕ = nth_child p.node i in
     let early : c < slice_index v.ids k = child_before g (slice_index v.ids k) p.node i h.graph p.at lt in
@@ -103,7 +103,7 @@ made_embeds g table e v h k m at = elim (h.placed.each k m at) [
       (n.0, inr (record { free = p.1; at = n.1; width = width_at g table e v k m h at }))
 ]
 
-made_widths : (g : Graph) (table : List ℕ) (e : Expanded) (v : ViewParts) → IsMade g table e v → HaveWidths v.nodes v.widths
+pub made_widths : (g : Graph) (table : List ℕ) (e : Expanded) (v : ViewParts) → IsMade g table e v → HaveWidths v.nodes v.widths
 made_widths g table e v h = record {
   size = omega (arith, h.measured.size, h.size);
   each = λ k m at. elim (h.placed.each k m at) [

@@ -6,10 +6,10 @@ ghost use Rattle.dag_view.specs.Made.{IsMade, view_of};
 ghost use Rattle.dag_view.specs.Under.{ArePlaced, AreReady, AreWidthsOf, Among, IsBelow, IsPlaced, IsPlacedWhole, IsRising};
 
 use crate::expanded::Expanded;
+use crate::retains::Retains;
 use crate::under::nodes_under;
 use dag::{Dag, Node, NodeId};
 use memory::Memory;
-use merge_table::MergeTable;
 use std::alloc::Global;
 
 /// Nodes that are placed, their widths, the graph's nodes that they stand for, the places of two of them, and the number
@@ -25,10 +25,10 @@ pub struct Placed {
 }
 
 /// Places the nodes under a pair.
-pub fn place(
+pub fn place<R: Retains>(
     alloc: Global,
     dag: &Dag,
-    table: &MergeTable,
+    table: &R,
     a: u32,
     b: u32,
     expanded: &Expanded,
@@ -36,8 +36,8 @@ pub fn place(
     requires first { a < length dag.now.nodes }
     requires second { b < length dag.now.nodes }
     requires width { slice_get dag.now.widths a ≡ slice_get dag.now.widths b }
-    requires table { IsTableOf dag.now table.now }
-    ensures { IfOk result (λ p. IsMade dag.now table.now expanded.now (view_of p a b)) }
+    requires table { IsTableOf dag.now (R.table table.now) }
+    ensures { IfOk result (λ p. IsMade dag.now (R.table table.now) expanded.now (view_of p a b)) }
 {
     dag.known();
     let ids = nodes_under(alloc, dag, table, a, b, expanded)?;
@@ -69,18 +69,18 @@ fn widths_of(alloc: Global, dag: &Dag, ids: &[u32]) -> Result<Vec<u32>, Memory>
 }
 
 /// The nodes of a view that stands for these nodes of the graph.
-fn nodes_of(
+fn nodes_of<R: Retains>(
     alloc: Global,
     dag: &Dag,
-    table: &MergeTable,
+    table: &R,
     expanded: &Expanded,
     ids: &[u32],
     widths: &[u32],
     leaves: u32,
 ) -> Result<Vec<Node>, Memory>
-    requires { AreReady dag.now table.now expanded.now ids.now widths.now leaves }
+    requires { AreReady dag.now (R.table table.now) expanded.now ids.now widths.now leaves }
     ensures size { IfOk result (λ ns. length ns.items ≡ length ids.now) }
-    ensures placed { IfOk result (λ ns. ArePlaced dag.now table.now expanded.now ids.now widths.now leaves ns.items) }
+    ensures placed { IfOk result (λ ns. ArePlaced dag.now (R.table table.now) expanded.now ids.now widths.now leaves ns.items) }
 {
     let mut nodes = Vec::new(alloc);
     for k in 0..ids.len() {
@@ -90,18 +90,18 @@ fn nodes_of(
 }
 
 /// The node at a place: an expanded one with the places of its children, or a free leaf.
-fn node_at(
+fn node_at<R: Retains>(
     dag: &Dag,
-    table: &MergeTable,
+    table: &R,
     expanded: &Expanded,
     ids: &[u32],
     widths: &[u32],
     leaves: u32,
     k: usize,
 ) -> Node
-    requires ready { AreReady dag.now table.now expanded.now ids.now widths.now leaves }
+    requires ready { AreReady dag.now (R.table table.now) expanded.now ids.now widths.now leaves }
     requires inside { k < length ids.now }
-    ensures { IsPlaced dag.now table.now expanded.now ids.now widths.now leaves k result }
+    ensures { IsPlaced dag.now (R.table table.now) expanded.now ids.now widths.now leaves k result }
 {
     let id = ids[k];
     if expanded.expands(id) {
@@ -114,13 +114,13 @@ fn node_at(
 }
 
 /// A node of the graph with the places of what retains its children.
-fn expanded_node(dag: &Dag, table: &MergeTable, ids: &[u32], id: u32) -> Node
+fn expanded_node<R: Retains>(dag: &Dag, table: &R, ids: &[u32], id: u32) -> Node
     requires inside { id < length dag.now.nodes }
-    requires table { IsTableOf dag.now table.now }
+    requires table { IsTableOf dag.now (R.table table.now) }
     requires rising { IsRising ids.now }
     requires few { length ids.now ≤ 2 ^ 31 }
-    requires closed { (k : ℕ) → IsBelow dag.now table.now id k → Among ids.now k }
-    ensures { IsPlacedWhole dag.now table.now ids.now id result }
+    requires closed { (k : ℕ) → IsBelow dag.now (R.table table.now) id k → Among ids.now k }
+    ensures { IsPlacedWhole dag.now (R.table table.now) ids.now id result }
 {
     dag.known();
     let node = dag.node(NodeId(id));
@@ -134,13 +134,13 @@ fn expanded_node(dag: &Dag, table: &MergeTable, ids: &[u32], id: u32) -> Node
 }
 
 /// The place of what retains a child.
-fn child_place(table: &MergeTable, ids: &[u32], child: NodeId) -> NodeId
-    requires there { child.0 < length table.now }
+fn child_place<R: Retains>(table: &R, ids: &[u32], child: NodeId) -> NodeId
+    requires there { child.0 < length (R.table table.now) }
     requires rising { IsRising ids.now }
     requires few { length ids.now ≤ 2 ^ 31 }
-    ensures { (r : ℕ) → slice_get table.now child.0 ≡ Some r → Among ids.now r → slice_get ids.now result.0 ≡ Some r }
+    ensures { (r : ℕ) → slice_get (R.table table.now) child.0 ≡ Some r → Among ids.now r → slice_get ids.now result.0 ≡ Some r }
 {
-    NodeId(place_of(ids, table.retained(child.0)) as u32)
+    NodeId(place_of(ids, table.retained_by(child.0)) as u32)
 }
 
 /// The place of a number among rising ones, where it is one of them.

@@ -5,26 +5,26 @@ ghost use Rattle.dag_view.specs.View.{IsTableOf, arity, nth_child};
 ghost use Rattle.dag_view.specs.Under.{AddsChildren, AreMet, AreUnder, Among};
 
 use crate::expanded::Expanded;
+use crate::retains::Retains;
 use dag::{Dag, Node, NodeId};
 use memory::Memory;
-use merge_table::MergeTable;
 use std::alloc::Global;
 use std::collections::BTreeSet;
 
 /// Two nodes, and what retains a child of each expanded one among them, in rising order. They are found from the last
 /// one back, since a child stands before its node: so each is taken once, and none beside them is looked at.
-pub fn nodes_under(
+pub fn nodes_under<R: Retains>(
     alloc: Global,
     dag: &Dag,
-    table: &MergeTable,
+    table: &R,
     a: u32,
     b: u32,
     expanded: &Expanded,
 ) -> Result<Vec<u32>, Memory>
     requires first { a < length dag.now.nodes }
     requires second { b < length dag.now.nodes }
-    requires table { IsTableOf dag.now table.now }
-    ensures { IfOk result (λ ids. AreUnder dag.now table.now expanded.now a b ids.items) }
+    requires table { IsTableOf dag.now (R.table table.now) }
+    ensures { IfOk result (λ ids. AreUnder dag.now (R.table table.now) expanded.now a b ids.items) }
 {
     dag.known();
     let mut waiting = BTreeSet::new(alloc);
@@ -61,17 +61,17 @@ fn take_last(waiting: &mut BTreeSet<u32>) -> Option<u32>
 }
 
 /// Has what retains the children of a node wait.
-fn wait_for_children(
-    table: &MergeTable,
+fn wait_for_children<R: Retains>(
+    table: &R,
     waiting: &mut BTreeSet<u32>,
     node: Node,
 ) -> Result<(), Memory>
-    requires { (i : ℕ) → i < arity node → nth_child node i < length table.now }
-    ensures { OnOk result (AddsChildren table.now node (arity node) waiting.old.keys waiting.new.keys) }
+    requires { (i : ℕ) → i < arity node → nth_child node i < length (R.table table.now) }
+    ensures { OnOk result (AddsChildren (R.table table.now) node (arity node) waiting.old.keys waiting.new.keys) }
 {
     let children = node.children();
     for i in 0..children.count as usize {
-        wait(waiting, table.retained(children.ids[i].0))?;
+        wait(waiting, table.retained_by(children.ids[i].0))?;
     }
     Ok(())
 }

@@ -2,7 +2,8 @@
 
 ghost use Rattle.std.specs.Prelude.{◌≡◌, ◌<◌, ◌≤◌, ◌+◌, ℕ, List, IsTrue, true, false, Some, None, IfOk, OnOk, IfErr, length, slice_get, slice_index};
 ghost use Rattle.axe_io.specs.Shapes.{leaf_widths};
-ghost use Rattle.bit_blaster.specs.Circuit.{IsCircuit, widths_of};
+ghost use Rattle.dag.specs.Graph.{graph_charge};
+ghost use Rattle.bit_blaster.specs.Circuit.{IsCircuit, units, widths_of};
 ghost use Rattle.dag_view.specs.View.{IsView, IsUnder, IsTableOf, IsWhole, HasFree, Embeds, StandBefore, HasMisfit, HasMisfitAt, HasGraphValues};
 ghost use Rattle.dag_view.specs.Steps.{IsCutAt};
 ghost use Rattle.dag_view.specs.Under.{IsBySet};
@@ -10,6 +11,7 @@ ghost use Rattle.dag_view.specs.Under.{IsBySet};
 use crate::expanded::Expanded;
 use crate::misfit::{Misfit, is_free, same_children, same_kind, same_width};
 use crate::place::place;
+use crate::retains::Retains;
 use crate::steps::nodes_within;
 use dag::{Dag, Node, NodeId};
 use memory::Memory;
@@ -170,10 +172,10 @@ impl View {
 
     /// The view of two nodes of one width by a set: the two and what retains a child of each expanded node that is met,
     /// and no others. Those that are expanded stand with their definitions, each other one is a free leaf.
-    pub fn by_set(
+    pub fn by_set<R: Retains>(
         alloc: Global,
         dag: &Dag,
-        table: &MergeTable,
+        table: &R,
         a: NodeId,
         b: NodeId,
         expanded: &Expanded,
@@ -181,12 +183,13 @@ impl View {
         requires first { a.0 < length dag.now.nodes }
         requires second { b.0 < length dag.now.nodes }
         requires width { slice_get dag.now.widths a.0 ≡ slice_get dag.now.widths b.0 }
-        requires table { IsTableOf dag.now table.now }
+        requires table { IsTableOf dag.now (R.table table.now) }
         ensures first { IfOk result (λ v. v.a ≡ a.0) }
         ensures second { IfOk result (λ v. v.b ≡ b.0) }
         ensures leaves { IfOk result (λ v. v.leaves ≡ length (leaf_widths dag.now.shape.params)) }
-        ensures embeds { IfOk result (Embeds dag.now table.now) }
+        ensures embeds { IfOk result (Embeds dag.now (R.table table.now)) }
         ensures under { IfOk result IsUnder }
+        ensures few { IfOk result (λ v. units v.nodes ≤ graph_charge dag.now) }
         ensures by_set { IfOk result (IsBySet expanded.now) }
     {
         let placed = place(alloc, dag, table, a.0, b.0, expanded)?;
@@ -204,10 +207,10 @@ impl View {
 
     /// The view of two nodes of one width with the definitions under them, each child replaced by the node that retains
     /// it. With a number of steps a node whose shortest way down has that many is a free leaf.
-    pub fn cone(
+    pub fn cone<R: Retains>(
         alloc: Global,
         dag: &Dag,
-        table: &MergeTable,
+        table: &R,
         a: NodeId,
         b: NodeId,
         cut: Option<u32>,
@@ -215,13 +218,14 @@ impl View {
         requires first { a.0 < length dag.now.nodes }
         requires second { b.0 < length dag.now.nodes }
         requires width { slice_get dag.now.widths a.0 ≡ slice_get dag.now.widths b.0 }
-        requires table { IsTableOf dag.now table.now }
+        requires table { IsTableOf dag.now (R.table table.now) }
         ensures first { IfOk result (λ v. v.a ≡ a.0) }
         ensures second { IfOk result (λ v. v.b ≡ b.0) }
         ensures leaves { IfOk result (λ v. v.leaves ≡ length (leaf_widths dag.now.shape.params)) }
-        ensures embeds { IfOk result (Embeds dag.now table.now) }
+        ensures embeds { IfOk result (Embeds dag.now (R.table table.now)) }
         ensures under { IfOk result IsUnder }
-        ensures cut { IfOk result (IsCutAt dag.now table.now a.0 b.0 cut) }
+        ensures few { IfOk result (λ v. units v.nodes ≤ graph_charge dag.now) }
+        ensures cut { IfOk result (IsCutAt dag.now (R.table table.now) a.0 b.0 cut) }
     {
         let Some(steps) = cut else {
             return View::by_set(alloc, dag, table, a, b, &Expanded::All);

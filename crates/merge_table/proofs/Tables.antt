@@ -24,7 +24,7 @@ range_at n k r h =
     let le : k < n = omega (arith, lt, length-range_with_len 0 n) in
     (le, sym (get_or_from_slice_get (range_with_len 0 n) k r 0 h) ∙ get_or-range_with_len 0 n k 0 le ∙ zero_plus k)
 
-at_range : (n k : ℕ) → k < n → slice_get (range_with_len 0 n) k ≡ Some k
+pub at_range : (n k : ℕ) → k < n → slice_get (range_with_len 0 n) k ≡ Some k
 at_range n k lt = slice_get-get_or (range_with_len 0 n) k 0 (omega (arith, lt, length-range_with_len 0 n)) ∙ ap Some (get_or-range_with_len 0 n k 0 lt ∙ zero_plus k)
 
 pub flat_range : (n : ℕ) → IsFlat (range_with_len 0 n)

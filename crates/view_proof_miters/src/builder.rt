@@ -1,4 +1,4 @@
-ghost use Rattle.std.specs.Prelude.{◌≡◌, IfOk};
+ghost use Rattle.std.specs.Prelude.{◌≡◌, ◌≤◌, ◌^◌, ℕ, IfOk};
 ghost use Rattle.dag.specs.Graph.{Adds};
 ghost use Rattle.dag.specs.declared.node.Node.TheVariants.{Leaf, Const};
 
@@ -45,22 +45,42 @@ impl From<DagError> for Fault {
     }
 }
 
-/// A graph over eight words of 32 bits, to which nodes are added.
+/// Eight words of 32 bits, four bytes and three words of 64 bits.
+const PARAMS: [Param; 3] = [
+    Param {
+        kind: Kind::Int,
+        len: Some(8),
+    },
+    Param {
+        kind: Kind::Byte,
+        len: Some(4),
+    },
+    Param {
+        kind: Kind::Long,
+        len: Some(3),
+    },
+];
+
+/// The places of the first byte and of the first word of 64 bits among the leaves.
+const BYTES: u32 = 8;
+
+const LONGS: u32 = 12;
+
+/// A graph over eight words of 32 bits, four bytes and three words of 64 bits, to which nodes are added.
 #[derive(Drop)]
 pub struct Builder {
     pub dag: Dag,
 }
 
 impl Builder {
-    /// A graph without nodes of its own.
-    pub fn new(alloc: Global) -> Result<Builder, Fault> {
-        let param = Param {
-            kind: Kind::Int,
-            len: Some(8),
-        };
-        let params = Vec::from_slice(alloc, &[param])?;
+    /// A graph without nodes of its own, for at most so many.
+    pub fn new(alloc: Global, limit: u32) -> Result<Builder, Fault>
+        requires some { 1 ≤ limit }
+        requires most { limit ≤ 2 ^ 31 }
+    {
+        let params = Vec::from_slice(alloc, &PARAMS)?;
         let shape = Shape::of(params, OutPlace::Returned, Kind::Int, false);
-        let dag = Dag::begin(alloc, 65536, &shape)?;
+        let dag = Dag::begin(alloc, limit, &shape)?;
         Ok(Builder { dag })
     }
 
@@ -80,6 +100,22 @@ impl Builder {
         ensures { IfOk result (λ id. Adds self.old.dag self.new.dag (Leaf 32 index) id.0) }
     {
         self.put(Node::Leaf { width: 32, index })
+    }
+
+    /// An input byte.
+    pub fn byte(&mut self, number: u32) -> Result<NodeId, Fault>
+        ensures { IfOk result (λ id. (i : ℕ) × Adds self.old.dag self.new.dag (Leaf 8 i) id.0) }
+    {
+        let index = number.saturating_add(BYTES);
+        self.put(Node::Leaf { width: 8, index })
+    }
+
+    /// An input word of 64 bits.
+    pub fn long(&mut self, number: u32) -> Result<NodeId, Fault>
+        ensures { IfOk result (λ id. (i : ℕ) × Adds self.old.dag self.new.dag (Leaf 64 i) id.0) }
+    {
+        let index = number.saturating_add(LONGS);
+        self.put(Node::Leaf { width: 64, index })
     }
 
     /// A constant.

@@ -11,14 +11,14 @@ pub struct Cost {
     pub clauses: u32,
 }
 
-/// The names of the kinds of node that cost something or may do so.
-pub const KINDS: [&str; 16] = [
+/// The names of the kinds of node.
+pub const KINDS: [&str; 20] = [
     "Not", "And", "Or", "Xor", "Neg", "Plus", "Times", "Eq", "Ult", "Slt", "Ite", "Slice", "Cat",
-    "Sext", "Shl", "Shr",
+    "Sext", "Shl", "Shr", "Udiv", "Urem", "Const", "Leaf",
 ];
 
 /// The node of a kind over two words of a width and a bit.
-fn node_of(kind: u32, width: u32, x: NodeId, y: NodeId, bit: NodeId) -> Node {
+pub fn node_of(kind: u32, width: u32, x: NodeId, y: NodeId, bit: NodeId) -> Node {
     match kind {
         0 => Node::Not(x),
         1 => Node::And(x, y),
@@ -32,25 +32,30 @@ fn node_of(kind: u32, width: u32, x: NodeId, y: NodeId, bit: NodeId) -> Node {
         9 => Node::Slt(x, y),
         10 => Node::Ite(bit, x, y),
         11 => Node::Slice {
-            high: 0,
-            low: 0,
+            high: width.saturating_sub(1),
+            low: width / 2,
             a: x,
         },
-        12 => Node::Cat(x, y),
+        12 => Node::Cat(x, bit),
         13 => Node::Sext {
             width: width.saturating_add(8).min(64),
             a: x,
         },
         14 => Node::Shl(x, y),
-        _ => Node::Shr(x, y),
+        15 => Node::Shr(x, y),
+        16 => Node::Udiv(x, y),
+        17 => Node::Urem(x, y),
+        18 => Node::Const { width, value: 1 },
+        _ => Node::Leaf {
+            width: 64,
+            index: 12,
+        },
     }
 }
 
-/// A word of a width over the input words from an index on.
-fn word(b: &mut Builder, index: u32, width: u32) -> Result<NodeId, Fault> {
-    let high = b.input(index)?;
-    let low = b.input(index.saturating_add(1))?;
-    let a = b.put(Node::Cat(high, low))?;
+/// The lowest bits of an input word of 64 bits.
+pub fn word(b: &mut Builder, number: u32, width: u32) -> Result<NodeId, Fault> {
+    let a = b.long(number)?;
     b.put(Node::Slice {
         high: width.saturating_sub(1),
         low: 0,
@@ -60,10 +65,10 @@ fn word(b: &mut Builder, index: u32, width: u32) -> Result<NodeId, Fault> {
 
 /// What the bits of a kind of node at a width cost, or None where it doesn't fit.
 pub fn cost_of(alloc: Global, kind: u32, width: u32) -> Result<Option<Cost>, Fault> {
-    let mut b = Builder::new(alloc)?;
+    let mut b = Builder::new(alloc, 65536)?;
     let x = word(&mut b, 0, width)?;
-    let y = word(&mut b, 2, width)?;
-    let bit = word(&mut b, 4, 1)?;
+    let y = word(&mut b, 1, width)?;
+    let bit = word(&mut b, 2, 1)?;
     let node = node_of(kind, width, x, y, bit);
     if !b.dag.fits(node) {
         return Ok(None);
@@ -75,8 +80,8 @@ pub fn cost_of(alloc: Global, kind: u32, width: u32) -> Result<Option<Cost>, Fau
     };
     let mut inputs = 1u32;
     for node in view.nodes() {
-        if matches!(node, Node::Leaf { .. }) {
-            inputs = inputs.saturating_add(32);
+        if let Node::Leaf { width, .. } = node {
+            inputs = inputs.saturating_add(*width);
         }
     }
     Ok(Some(Cost {

@@ -85,3 +85,60 @@ pub fn tree(
     }
     Ok(words.first().copied().unwrap_or(NodeId(0)))
 }
+
+/// A byte twice in the field: moved up, and the field's polynomial taken off where a bit is lost.
+fn doubled(b: &mut Builder, x: NodeId) -> Result<NodeId, Fault> {
+    let one = b.constant(8, 1)?;
+    let up = b.put(Node::Shl(x, one))?;
+    let sign = b.put(Node::Slice {
+        high: 7,
+        low: 7,
+        a: x,
+    })?;
+    let polynomial = b.constant(8, 0x1b)?;
+    let turned = b.put(Node::Xor(up, polynomial))?;
+    b.put(Node::Ite(sign, turned, up))
+}
+
+/// The product of two bytes in the field, by the bits of the second.
+fn product_node(b: &mut Builder, x: NodeId, y: NodeId) -> Result<NodeId, Fault> {
+    let mut sum = b.constant(8, 0)?;
+    let mut power = x;
+    for i in 0..8u32 {
+        let bit = b.put(Node::Slice {
+            high: i,
+            low: i,
+            a: y,
+        })?;
+        let more = b.put(Node::Xor(sum, power))?;
+        sum = b.put(Node::Ite(bit, more, sum))?;
+        power = doubled(b, power)?;
+    }
+    Ok(sum)
+}
+
+/// A byte rotated up.
+fn turned(b: &mut Builder, x: NodeId, amount: u64) -> Result<NodeId, Fault> {
+    let up = b.constant(8, amount)?;
+    let down = b.constant(8, 8u64.saturating_sub(amount))?;
+    let high = b.put(Node::Shl(x, up))?;
+    let low = b.put(Node::Shr(x, down))?;
+    b.put(Node::Or(high, low))
+}
+
+/// The substitution of a byte by inversion: its power 254 from the power 127 down, and then the affine map.
+pub fn inverted(b: &mut Builder, x: NodeId) -> Result<NodeId, Fault> {
+    let mut power = x;
+    for _ in 0..6 {
+        let square = product_node(b, power, power)?;
+        power = product_node(b, square, x)?;
+    }
+    let inverse = product_node(b, power, power)?;
+    let mut sum = b.constant(8, 0x63)?;
+    sum = b.put(Node::Xor(sum, inverse))?;
+    for amount in 1..5u64 {
+        let part = turned(b, inverse, amount)?;
+        sum = b.put(Node::Xor(sum, part))?;
+    }
+    Ok(sum)
+}

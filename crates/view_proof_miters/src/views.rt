@@ -4,8 +4,7 @@ ghost use Rattle.dag_view.specs.View.{Embeds};
 
 use crate::builder::Fault;
 use dag::{Dag, NodeId};
-use dag_view::View;
-use merge_table::MergeTable;
+use dag_view::{Apart, View};
 use std::alloc::Global;
 
 /// The view of two nodes, where each node retains itself.
@@ -17,8 +16,8 @@ pub fn view(alloc: Global, dag: &Dag, a: NodeId, b: NodeId) -> Result<View, Faul
     if a.0 >= dag.len() || b.0 >= dag.len() || dag.width(a) != dag.width(b) {
         return Err(Fault::Unfit);
     }
-    let table = MergeTable::begin(alloc, dag.len())?;
-    let view = View::cone(alloc, dag, &table, a, b, None)?;
+    let apart = Apart::of(dag);
+    let view = View::cone(alloc, dag, &apart, a, b, None)?;
     Ok(view)
 }
 

@@ -7,12 +7,12 @@ use Rattle.dag_view.proofs.Taking.{adds_none, adds_next}
 use Rattle.dag_view.proofs.under.wait_for_children.Goals as goal
 
 pub loop-i-init : goal.loop-i-init
-loop-i-init c = adds_none _ _ _
+loop-i-init g c = adds_none _ _ _
 
 pub loop-i-preserved : goal.loop-i-preserved
-loop-i-preserved c =
-    let at : slice_get c.args.table.now (nth_child c.args.node c.loop-i.i) ≡ Some c.retained.result = rw c.children-children.ensures at c.retained.ensures.is in
+loop-i-preserved g c =
+    let at : slice_get (g.R.Retains.table c.args.table.now) (nth_child c.args.node c.loop-i.i) ≡ Some c.retained_by.result = rw c.children-children.ensures at c.retained_by.ensures in
     adds_next _ _ _ _ _ _ _ c.loop-i.invariant at c.in_ok-wait.ensures
 
 pub returns : goal.returns
-returns c = let e : c.loop-i.i ≡ arity c.args.node = omega (arith, c.loop-i-test.false, c.loop-i.auto.i-end, ap (λ (x : Children). x.count) c.children-children.ensures) in subst (λ (k : ℕ). AddsChildren c.args.table.now c.args.node k c.args.waiting.now.keys c.loop-i.waiting.keys) e c.loop-i.invariant
+returns g c = let e : c.loop-i.i ≡ arity c.args.node = omega (arith, c.loop-i-test.false, c.loop-i.auto.i-end, ap (λ (x : Children). x.count) c.children-children.ensures) in subst (λ (k : ℕ). AddsChildren (g.R.Retains.table c.args.table.now) c.args.node k c.args.waiting.now.keys c.loop-i.waiting.keys) e c.loop-i.invariant
