@@ -1,15 +1,21 @@
 -- Rows: numbers, each with its list of entries.
-use Rattle.std.proofs.Common.{◌≡◌, ◌≢◌, ℕ, zero, suc, ◌+◌, ◌<◌, ◌≤◌, ◌⊎◌, [], ◌∷◌, ◌++◌, length, take, drop, min, cond, sym, refl, ap, ◌∙◌, subst, inl, inr, arith, ne_eqb}
+use Rattle.std.proofs.Common.{◌≡◌, ◌≢◌, ℕ, zero, suc, ◌+◌, ◌<◌, ◌≤◌, ◌⊎◌, List, [], ◌∷◌, ◌++◌, length, take, drop, min, cond, sym, refl, ap, ◌∙◌, subst, inl, inr, arith, ne_eqb}
 use mathlib.Core.Logic.{dite}
 use native.Mathlib.Decide.{dec_le, ℕ_discrete}
 use Rattle.std.specs.List.{All, Contains}
 use Rattle.std.proofs.lemmas.List.Elements.{All-nil, All-cons, All-head, All-tail, All-weaker}
 use Rattle.std.proofs.Math.Nat.{min-eq_left, min-eq_right}
-use Rattle.turn_lock.specs.Entries.{History, Rows, entries_of, empty_rows, ConsecutiveFrom, least_with, least_of, HasNumber, grown}
+use Rattle.turn_lock.specs.Entries.{History, Rows, entries_of, empty_rows, numbers_of, ConsecutiveFrom, least_with, least_of, HasNumber, grown}
 
 -- what holds of two numbers holds of the lesser
 either_min : (P : ℕ → Type 0) (a b : ℕ) → P a → P b → P (min a b)
 either_min P a b pa pb = dite (dec_le a b) (λ le. subst P (sym (min-eq_left le)) pa) (λ gt. subst P (sym (min-eq_right (let g : b ≤ a = omega arith in g))) pb)
+
+same_first : (x y : ℕ) (xs ys : List ℕ) → x ∷ xs ≡ y ∷ ys → x ≡ y
+same_first x y xs ys e = cc
+
+same_rest : (x y : ℕ) (xs ys : List ℕ) → x ∷ xs ≡ y ∷ ys → xs ≡ ys
+same_rest x y xs ys e = cc
 
 module _ {E : Type 0} where
   -- what holds of k and of each number holds of the least of them
@@ -98,6 +104,22 @@ module _ {E : Type 0} where
   pub length-grown : (added : History E) (rows : Rows E) → length (grown added rows) ≡ length rows
   length-grown added [] = refl
   length-grown added (row ∷ rows) = let h = length-grown added rows in omega arith
+
+  pub numbers_of-grown : (added : History E) (rows : Rows E) → numbers_of (grown added rows) ≡ numbers_of rows
+  numbers_of-grown added [] = refl
+  numbers_of-grown added (row ∷ rows) = ap (λ (ks : List ℕ). row.0 ∷ ks) (numbers_of-grown added rows)
+
+  -- rows of the same numbers are as many, and consecutive alike
+  pub length-same : (xs ys : Rows E) → numbers_of xs ≡ numbers_of ys → length xs ≡ length ys
+  length-same [] [] e = refl
+  length-same [] (y ∷ ys) e = cc
+  length-same (x ∷ xs) [] e = cc
+  length-same (x ∷ xs) (y ∷ ys) e = ap suc (length-same xs ys (same_rest x.0 y.0 (numbers_of xs) (numbers_of ys) e))
+
+  pub ConsecutiveFrom-same : (k : ℕ) (xs ys : Rows E) → numbers_of xs ≡ numbers_of ys → ConsecutiveFrom k ys → ConsecutiveFrom k xs
+  ConsecutiveFrom-same k [] ys e from = tt
+  ConsecutiveFrom-same k (x ∷ xs) [] e from = cc
+  ConsecutiveFrom-same k (x ∷ xs) (y ∷ ys) e from = (same_first x.0 y.0 (numbers_of xs) (numbers_of ys) e ∙ from.0, ConsecutiveFrom-same (suc k) xs ys (same_rest x.0 y.0 (numbers_of xs) (numbers_of ys) e) from.1)
 
   -- the least number of two lists of rows is the lesser of their least
   least_with-append : (k : ℕ) (xs : Rows E) (y : ℕ × History E) (ys : Rows E) → least_with k (xs ++ y ∷ ys) ≡ min (least_with k xs) (least_with y.0 ys)

@@ -23,6 +23,10 @@ module _ {E : Type 0} where
   empty_rows k zero = []
   empty_rows k (suc n) = (k, []) ∷ empty_rows (suc k) n
 
+  -- the numbers, in their order
+  abbrev pub numbers_of : Rows E → List ℕ
+  numbers_of rows = map (λ row. row.0) rows
+
   -- the numbers are consecutive from k on
   abbrev pub ConsecutiveFrom : ℕ → Rows E → Type 0
   ConsecutiveFrom k [] = Unit {0}

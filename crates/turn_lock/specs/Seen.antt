@@ -1,7 +1,7 @@
 -- What contracts see of a lock, a pass and a hold, and what they say of them.
-use Rattle.std.specs.Prelude.{◌≡◌, ◌<◌, ◌++◌, ℕ, List, [], ◌∷◌, Option, Some, All, Contains}
+use Rattle.std.specs.Prelude.{◌≡◌, ◌<◌, ◌-◌, ◌++◌, ℕ, length, List, [], ◌∷◌, Option, Some, All, Contains}
 use Rattle.atomic_table.specs.Seated.{TableId}
-use Rattle.turn_lock.specs.Entries.{Begins, History, Rows, entries_of, grown, least_of}
+use Rattle.turn_lock.specs.Entries.{Begins, ConsecutiveFrom, History, Rows, empty_rows, entries_of, grown, least_of}
 
 -- what was put into a lock: the value's opening, and the entries that it had then
 abbrev pub Start : Type 0 → Type 0 → Type 0
@@ -42,6 +42,17 @@ module _ {O E : Type 0} where
   -- the history begins with each history that the pass has seen, and each of the pass's lists is that of its number's entries
   abbrev pub Fits : SeenPass O E → History E → Type 0
   Fits pass history = All (Begins history) pass.seen × All (λ row. row.1 ≡ entries_of history row.0) pass.rows
+
+module _ {O E : Type 0} where
+  -- passes of the lock of this name, each with one number and no entries yet: the first has the number n, each next a number less
+  abbrev pub AreDealt : LockName O E → ℕ → List (SeenPass O E) → Type 0
+  AreDealt lock n [] = Unit {0}
+  AreDealt lock n (pass ∷ passes) = (pass.lock ≡ lock) × (pass.rows ≡ empty_rows n 1) × AreDealt lock (n - 1) passes
+
+  -- the same numbers, whatever entries they have
+  abbrev pub AreNumbered : LockName O E → ℕ → List (SeenPass O E) → Type 0
+  AreNumbered lock n [] = Unit {0}
+  AreNumbered lock n (pass ∷ passes) = (pass.lock ≡ lock) × (length pass.rows ≡ 1) × ConsecutiveFrom n pass.rows × AreNumbered lock (n - 1) passes
 
 module _ {T O E : Type 0} (opening : T → O) (entries : T → History E) where
   -- the value has the opening that was put in, the entries that were put in, and after them this history

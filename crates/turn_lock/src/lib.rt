@@ -17,15 +17,18 @@
 //! - `kept`: the trait of the values that a lock can hold.
 //! - `pass`: passes, and holds, which a pass becomes while the value is out.
 //! - `lock`: the lock, on a table of two words and one slot of `atomic_table`.
+//! - `dealing`: a pass for each worker, and one pass of all at the end.
 //! - `rule`, `view`: the rule of that table, its steps, and what a seat of it knows.
 #![tactic(auto)]
 
+mod dealing;
 mod kept;
 mod lock;
 mod pass;
 mod rule;
 mod view;
 
+pub use dealing::{deal, gather};
 pub use kept::Kept;
 pub use lock::TurnLock;
 pub use memory::Memory;

@@ -1,4 +1,5 @@
-ghost use Rattle.std.specs.Prelude.{◌≡◌, [], length};
+ghost use Rattle.std.specs.Prelude.{◌≡◌, []};
+ghost use Rattle.turn_lock.specs.Entries.{numbers_of};
 ghost use Rattle.turn_lock.specs.Seen.{name_of};
 
 use std::sync::{Mutex, Wait};
@@ -21,11 +22,11 @@ impl Kept for Counter {
 }
 
 /// One turn of the lock.
-#[tactic(auto, using(crate::proofs::Counted::nothing_added, crate::proofs::Counted::as_wide))]
+#[tactic(auto, using(crate::proofs::Counted::nothing_added, crate::proofs::Counted::as_numbered))]
 fn turn<R: Wait>(rt: &R, lock: &TurnLock<Counter>, pass: Pass<Counter>) -> Pass<Counter>
     requires { pass.lock ≡ name_of lock.now }
     ensures lock { result.lock ≡ pass.lock }
-    ensures wide { length result.rows ≡ length pass.rows }
+    ensures numbers { numbers_of result.rows ≡ numbers_of pass.rows }
 {
     let (mut counter, held) = lock.enter(rt, pass);
     counter.turns = counter.turns.wrapping_add(1);
@@ -41,7 +42,7 @@ pub fn take_turns<R: Wait>(
 ) -> Pass<Counter>
     requires { pass.lock ≡ name_of lock.now }
     ensures lock { result.lock ≡ pass.lock }
-    ensures wide { length result.rows ≡ length pass.rows }
+    ensures numbers { numbers_of result.rows ≡ numbers_of pass.rows }
 {
     let mut pass = pass;
     for _ in 0..turns {

@@ -8,7 +8,6 @@
 ghost use Rattle.std.specs.Prelude.{◌≤◌, IfSome};
 
 mod counter;
-mod dealing;
 #[cfg(test)]
 mod tests;
 mod threads;

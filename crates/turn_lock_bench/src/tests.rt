@@ -1,13 +1,13 @@
-ghost use Rattle.std.specs.Prelude.{◌≡◌, length};
+ghost use Rattle.std.specs.Prelude.{◌≡◌, ◌++◌, ◌∷◌, []};
+ghost use Rattle.turn_lock.specs.Entries.{numbers_of};
 ghost use Rattle.turn_lock.specs.Seen.{name_of};
 
-use crate::dealing::{deal, gather};
 use std::alloc::Global;
 use std::process::Abort;
 use std::sync::Wait;
 use std::test::Fail;
 use std::thread::{Threads, join, map_vec};
-use turn_lock::{Kept, Memory, Pass, TurnLock};
+use turn_lock::{Kept, Memory, Pass, TurnLock, deal, gather};
 
 /// A list of numbered entries, whose name stays.
 #[derive(Drop)]
@@ -33,6 +33,16 @@ fn empty_journal(alloc: Global) -> Journal {
     }
 }
 
+/// The journal with one entry more.
+fn with_entry<R: Abort>(rt: &R, journal: Journal, number: u32, n: u64) -> Journal
+    ensures name { result.name ≡ journal.name }
+    ensures entries { result.items.items ≡ journal.items.items ++ (number, n) ∷ [] }
+{
+    let mut journal = journal;
+    journal.items.push((number, n)).expect(rt, "memory");
+    journal
+}
+
 /// One turn, in which an entry is added under the pass's number.
 fn add<R: Wait + Abort>(
     rt: &R,
@@ -42,12 +52,11 @@ fn add<R: Wait + Abort>(
 ) -> Pass<Journal>
     requires { pass.lock ≡ name_of lock.now }
     ensures lock { result.lock ≡ pass.lock }
-    ensures wide { length result.rows ≡ length pass.rows }
+    ensures numbers { numbers_of result.rows ≡ numbers_of pass.rows }
 {
     let number = pass.least();
-    let (mut journal, held) = lock.enter(rt, pass);
-    journal.items.push((number, n)).expect(rt, "memory");
-    lock.leave(held, journal)
+    let (journal, held) = lock.enter(rt, pass);
+    lock.leave(held, with_entry(rt, journal, number, n))
 }
 
 /// As many turns as this, with the entries 0, 1 and so on.
@@ -59,7 +68,7 @@ fn add_all<R: Wait + Abort>(
 ) -> Pass<Journal>
     requires { pass.lock ≡ name_of lock.now }
     ensures lock { result.lock ≡ pass.lock }
-    ensures wide { length result.rows ≡ length pass.rows }
+    ensures numbers { numbers_of result.rows ≡ numbers_of pass.rows }
 {
     let mut pass = pass;
     for n in 0..turns {
@@ -93,11 +102,11 @@ fn two_hundred_turns(rt: HostRuntime) -> Result<(), Fail> {
         &rt,
         || -> Pass<Journal>
             requires { one.lock ≡ name_of lock }
-            ensures { (result.lock ≡ one.lock) × (length result.rows ≡ length one.rows) }
+            ensures { (result.lock ≡ one.lock) × (numbers_of result.rows ≡ numbers_of one.rows) }
         { add_all(&rt, &lock, one, 100) },
         || -> Pass<Journal>
             requires { two.lock ≡ name_of lock }
-            ensures { (result.lock ≡ two.lock) × (length result.rows ≡ length two.rows) }
+            ensures { (result.lock ≡ two.lock) × (numbers_of result.rows ≡ numbers_of two.rows) }
         { add_all(&rt, &lock, two, 100) },
     );
     let all = lock.join_pass(zero, lock.join_pass(one, two));
@@ -113,13 +122,15 @@ fn sixteen_threads_of_a_thousand_turns(rt: HostRuntime) -> Result<(), Fail> {
     let Ok((lock, pass)) = TurnLock::new(rt.alloc(), empty_journal(rt.alloc()), 17) else {
         panic!(rt; "no memory")
     };
-    let (zero, passes) = deal(rt.alloc(), &lock, pass, 16)?;
+    let Ok((zero, passes)) = deal(rt.alloc(), &lock, pass, 16) else {
+        panic!(rt; "no memory")
+    };
     let passes = map_vec(
         &rt,
         passes,
         &|pass: Pass<Journal>| -> Pass<Journal>
             requires { pass.lock ≡ name_of lock }
-            ensures { (result.lock ≡ pass.lock) × (length result.rows ≡ length pass.rows) }
+            ensures { (result.lock ≡ pass.lock) × (numbers_of result.rows ≡ numbers_of pass.rows) }
         { add_all(&rt, &lock, pass, 1000) },
     )?;
     let all = gather(&lock, zero, passes);

@@ -1,12 +1,12 @@
-ghost use Rattle.std.specs.Prelude.{◌≡◌, ◌+◌, ◌<◌, ◌^◌, length};
+ghost use Rattle.std.specs.Prelude.{◌≡◌, ◌+◌, ◌<◌, ◌^◌};
+ghost use Rattle.turn_lock.specs.Entries.{numbers_of};
 ghost use Rattle.turn_lock.specs.Seen.{name_of};
 
 use crate::counter::{Counter, take_mutex_turns, take_turns};
-use crate::dealing::{deal, gather};
 use std::alloc::{AllocError, Global};
 use std::sync::{Mutex, Wait};
 use std::thread::{Threads, map_indices, map_vec};
-use turn_lock::{Pass, TurnLock};
+use turn_lock::{Pass, TurnLock, deal, gather};
 
 /// So many threads take so many turns of a turn lock each. The answer is the count at the end.
 pub fn lock_turns<R: Threads + Wait + Sync>(
@@ -20,13 +20,15 @@ pub fn lock_turns<R: Threads + Wait + Sync>(
     let Ok((lock, pass)) = TurnLock::new(alloc, Counter { turns: 0 }, threads + 1) else {
         return Err(AllocError);
     };
-    let (zero, passes) = deal(alloc, &lock, pass, threads)?;
+    let Ok((zero, passes)) = deal(alloc, &lock, pass, threads) else {
+        return Err(AllocError);
+    };
     let passes = map_vec(
         rt,
         passes,
         &|pass: Pass<Counter>| -> Pass<Counter>
             requires { pass.lock ≡ name_of lock }
-            ensures { (result.lock ≡ pass.lock) × (length result.rows ≡ length pass.rows) }
+            ensures { (result.lock ≡ pass.lock) × (numbers_of result.rows ≡ numbers_of pass.rows) }
         { take_turns(rt, &lock, pass, turns) },
     )?;
     let all = gather(&lock, zero, passes);
