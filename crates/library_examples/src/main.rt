@@ -11,6 +11,8 @@ mod formulas;
 #[cfg(test)]
 mod logs;
 #[cfg(test)]
+mod partition;
+#[cfg(test)]
 mod tables;
 
 use std::io;
